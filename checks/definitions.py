@@ -1,10 +1,13 @@
 """What each line of a script is answered, computed from the definitions of crates/mt_plain/specs, each of which has its function here.
 
-Nothing of it asks the program. Memory is enough, and no watcher refuses. Lines are well formed: their names, numbers and types aren't tested.
+Nothing of it asks the program. Memory is enough, and no watcher refuses. Lines are well formed, but for their key ranges: names, numbers and types
+aren't tested.
 """
 import functools
 import json
 from dataclasses import dataclass, field
+
+from ranges import Refused, ranges_of, read_range, read_shards, refuse_if, shard_of
 
 TYPES = ("primary", "replica", "rdonly")
 MOST_KEYSPACES, MOST_TABLES, MOST_RULES, MOST_WORKFLOWS, MOST_JOURNAL, MOST_TRIES, MOST_AT_ONCE = 32, 256, 4096, 16, 4096, 64, 100
@@ -18,23 +21,19 @@ F15, F16, F17, F18 = "F15 NothingToSwitch", "F16 NothingToReverse", "F17 Copying
 F19, F20, F21, F22 = "F19 PastJournal", "F20 TrafficSwitched", "F21 NotAllSwitched", "F22 RuleOwned"
 F24, F25, F26, F27 = "F24 NoWatcher", "F25 Stale", "F26 Stopped", "F27 Full"
 F28, F29, F30 = "F28 Undoing", "F29 TooLong", "F30 Exists"
+F32, F33 = "F32 NoShard", "F33 ShardedSource"
 NOT_FOUND, AMBIGUOUS = "T2 NoTable", "T3 Ambiguous"
 
 
-class Refused(Exception):
-    """The first refusal of an event."""
-
-
-def refuse_if(test, refusal):
-    if test:
-        raise Refused(refusal)
+# ---- ways and workflows
 
 
 @dataclass
 class Way:
-    """A way that is open."""
+    """A way that is open; `done` counts the places of its plan, where the refresh of the target has one for each shard."""
 
     back: bool
+    shards: int
     before: frozenset
     after: frozenset
     done: int = 0
@@ -49,28 +48,57 @@ class Way:
     def behind_last(self):
         return FREEZE + 1 if "primary" in self.changed() else READS + 1
 
-    def next_step(self):
+    def repeated_step(self):
+        """The refresh of the target."""
+        return REFRESH_SOURCE if self.back else REFRESH_TARGET
+
+    def place_of_step(self, step, shard=0):
+        """The place of a step, which of the refresh of the target is that of a shard."""
+        repeated = self.repeated_step()
+        return step + (shard if step == repeated else self.shards - 1 if step > repeated else 0)
+
+    def length(self):
+        """How many places the plan has."""
+        return self.place_of_step(self.behind_last()) - self.first_step()
+
+    def next_place(self):
         return self.first_step() + self.done
 
-    def stands_done(self, step):
-        return self.first_step() <= step < self.next_step()
+    def next_step(self):
+        place, repeated = self.next_place(), self.repeated_step()
+        return place if place <= repeated else max(repeated, place - (self.shards - 1))
+
+    def stands_done(self, step, shard=None):
+        """Whether a step stands done, which of the refresh of the target is that of a shard, or of each where none is told."""
+        last = self.shards - 1 if shard is None else shard
+        return self.first_step() <= step and self.place_of_step(step, last) < self.next_place()
+
+
+@dataclass
+class Lane:
+    """What goes on for a shard of a target; `copied` is None, the last row copied, or "ended", and `written` counts the writes in that shard."""
+
+    shard: int
+    forward_at: int
+    fed: int = 0
+    written: int = 0
+    copied: object = None
+    back_at: int = 0
+    fresh_at: int = 0
 
 
 @dataclass
 class Live:
-    """A live workflow; `copied` is None, the last row copied, or "ended"."""
+    """A live workflow, with a lane for each shard of its target."""
 
     name: str
     source: str
     target: str
     tables: list
-    forward_at: int
-    fed: int
+    cuts: list
+    lanes: list
     switched: frozenset = frozenset()
     way: Way = None
-    copied: object = None
-    back_at: int = 0
-    fresh_at: int = 0
 
     def sides(self):
         return (self.source, self.target)
@@ -87,39 +115,56 @@ class Live:
     def new_owner(self):
         return self.source if "primary" in self.before_way() else self.target
 
-    def types_by(self, step):
-        """The types to read the table of a part with at what changes with a step."""
+    def types_by(self, step, shard=None):
+        """The types to read the table of a part with at what changes with a step, or with that of a shard."""
         if not self.way:
             return self.switched
-        return self.way.after if self.way.stands_done(step) else self.way.before
+        return self.way.after if self.way.stands_done(step, shard) else self.way.before
 
-    def is_denied(self, keyspace, by_old, by_new):
+    def is_denied(self, keyspace, by_old, by_new, shard=None):
         """Whether a side is denied, or lists the tables, which changes with one step at the old owner and with another at the new one."""
-        types = self.types_by(by_old if keyspace == self.old_owner() else by_new)
+        types = self.types_by(by_old if keyspace == self.old_owner() else by_new, shard)
         return ("primary" in types) == (keyspace == self.source)
 
-    def is_applied(self, table, key):
-        """Whether a stream writes an entry about this row: it is moved, and lies in the copied range."""
-        if table not in self.tables or self.copied is None:
-            return False
-        return self.copied == "ended" or (self.tables.index(table), key) <= self.copied
+    def lane_of(self, key):
+        return self.lanes[shard_of(self.cuts, key)]
 
-    def slot_before_way(self, stream):
+    def is_copied(self, table, key):
+        """Whether a row of a moved table lies in the copied range of its shard."""
+        copied = self.lane_of(key).copied
+        return copied == "ended" or copied is not None and (self.tables.index(table), key) <= copied
+
+    def is_behind(self):
+        return any(lane.fed < lane.written for lane in self.lanes)
+
+    def slot_before_way(self, stream, lane):
         target_owns = "primary" in self.before_way()
         if stream == "forward":
-            return ("frozen" if target_owns else "running", self.forward_at)
-        return ("running", self.back_at) if target_owns else None
+            return ("frozen" if target_owns else "running", lane.forward_at)
+        return ("running", lane.back_at) if target_owns else None
 
-    def slot(self, stream):
-        """The state and the position of a stream, or None."""
-        way, slot = self.way, self.slot_before_way(stream)
+    def slot(self, stream, shard=0):
+        """The state and the position of the stream of a shard, or None."""
+        way, lane = self.way, self.lanes[shard]
+        slot = self.slot_before_way(stream, lane)
         if not way or "primary" not in way.changed():
             return slot
         if way.back == (stream == "back"):
             return ("stopped", slot[1]) if slot and way.stands_done(STOP) else slot
         if way.stands_done(CREATE_BACK):
-            return ("running" if way.stands_done(START_BACK) else "stopped", self.fresh_at)
+            return ("running" if way.stands_done(START_BACK) else "stopped", lane.fresh_at)
         return slot
+
+    def stream_text(self, stream):
+        """What is shown of a stream: that of each shard, behind its range where there are several."""
+        shown = []
+        for lane, text in zip(self.lanes, ranges_of(self.cuts)):
+            slot = self.slot(stream, lane.shard)
+            if slot:
+                shown += [text] * (len(self.lanes) > 1) + [slot[0], str(slot[1])]
+            if stream == "forward":
+                shown.append("copied" if lane.copied == "ended" else "copying")
+        return " ".join(shown) or "none"
 
 
 @functools.cache
@@ -145,16 +190,16 @@ def types_text(types):
 
 @dataclass
 class Plain:
-    """The plain state; `rows` has of each table's number the rows that the writes left, and `counts` how many they were."""
+    """The plain state; `rows` has of each table's number the rows that the writes left, `cuts` of each keyspace the bounds between its shards."""
 
     scopes: list
     rules: dict = field(default_factory=dict)
     keyspaces: dict = field(default_factory=dict)
+    cuts: dict = field(default_factory=dict)
     numbers: dict = field(default_factory=dict)
     made: int = 0
     writes: list = field(default_factory=list)
     rows: dict = field(default_factory=dict)
-    counts: dict = field(default_factory=dict)
     logs: dict = field(default_factory=dict)
     lives: list = field(default_factory=list)
     journal: int = 0
@@ -200,10 +245,10 @@ class Plain:
         served = {key: self.served_rule(key) for key in keys}
         return [{"from_table": key, "to_tables": [served[key]]} for key in sorted(keys) if served[key]]
 
-    def is_refused(self, keyspace, table):
-        """Whether a primary's own list refuses a table."""
-        w = self.mover(table)
-        return bool(w) and keyspace in w.sides() and w.is_denied(keyspace, REFRESH_SOURCE, REFRESH_TARGET)
+    def is_refused(self, keyspace, table, key):
+        """Whether the own list of the primary of a key's shard refuses a table."""
+        w, shard = self.mover(table), shard_of(self.cuts[keyspace], key)
+        return bool(w) and keyspace in w.sides() and w.is_denied(keyspace, REFRESH_SOURCE, REFRESH_TARGET, shard)
 
     def tables_at(self, keyspace):
         moved = {table for w in self.lives if w.target == keyspace for table in w.tables}
@@ -226,28 +271,27 @@ class Plain:
         w = self.mover(table)
         return self.numbers[(w.source if w and keyspace in w.sides() else keyspace, table)]
 
-    def write_count(self, w):
-        return sum(self.counts[self.numbers[(w.source, table)]] for table in w.tables)
-
-    def is_behind(self, w):
-        return w.fed < self.write_count(w)
+    def lane_writes(self, w, lane):
+        """The writes to the tables of a workflow with a key in the shard of a lane."""
+        numbers = {self.numbers[(w.source, table)] for table in w.tables}
+        return [it for it in self.writes if it[0] in numbers and w.lane_of(it[1]) is lane]
 
     def row(self, keyspace, table, key):
         """A row at a keyspace: at the side that is no owner what was fed leaves, in the copied range."""
         w = self.mover(table)
         if not w or keyspace not in w.sides() or keyspace == w.owner_by(w.switched):
             return self.rows[self.client_number(keyspace, table)].get(key)
-        if not w.is_applied(table, key):
+        if not w.is_copied(table, key):
             return None
-        numbers = {self.numbers[(w.source, it)] for it in w.tables}
-        fed = [it for it in self.writes if it[0] in numbers][: w.fed]
+        lane = w.lane_of(key)
+        fed = self.lane_writes(w, lane)[: lane.fed]
         mine = [after for number, at, after in fed if (number, at) == (self.numbers[(w.source, table)], key)]
         return mine[-1] if mine else None
 
     def write(self, keyspace, table, verb, key, value):
         refuse_if(keyspace not in self.keyspaces, F1)
         refuse_if(not self.has_table(keyspace, table), F2)
-        refuse_if(self.is_refused(keyspace, table), F3)
+        refuse_if(self.is_refused(keyspace, table, key), F3)
         number = self.client_number(keyspace, table)
         before = self.rows[number].get(key)
         refuse_if(verb == "insert" and before is not None, F4)
@@ -255,25 +299,29 @@ class Plain:
         after = {"insert": value, "update": value, "append": (before or "") + (value or ""), "delete": None}[verb]
         refuse_if(verb == "append" and len(after) > 64, F29)
         self.writes.append((number, key, after))
-        self.counts[number] += 1
         self.rows[number][key] = after
-        self.logs[keyspace].append((table, key))
+        self.logs[(keyspace, shard_of(self.cuts[keyspace], key))].append((table, key))
+        w = self.mover(table)
+        if w and keyspace in w.sides():
+            w.lane_of(key).written += 1
         return "ok"
 
     def read(self, keyspace, table, key, type_of):
         refuse_if(keyspace not in self.keyspaces, F1)
         refuse_if(not self.has_table(keyspace, table), F2)
-        refuse_if(type_of == "primary" and self.is_refused(keyspace, table), F3)
+        refuse_if(type_of == "primary" and self.is_refused(keyspace, table, key), F3)
         row = self.row(keyspace, table, key)
         return "none" if row is None else f"row {row}"
 
     # ---- keyspaces, tables, rules
 
-    def add_keyspace(self, keyspace):
+    def add_keyspace(self, keyspace, shards="-"):
+        cuts = read_shards(shards)
         refuse_if(keyspace in self.keyspaces, F30)
         refuse_if(len(self.keyspaces) >= MOST_KEYSPACES, F27)
-        self.keyspaces[keyspace] = set()
-        self.logs[keyspace] = []
+        self.keyspaces[keyspace], self.cuts[keyspace] = set(), cuts
+        for shard in range(len(cuts) + 1):
+            self.logs[(keyspace, shard)] = []
         return "ok"
 
     def add_table(self, keyspace, table):
@@ -282,7 +330,7 @@ class Plain:
         refuse_if(len(self.tables_at(keyspace)) >= MOST_TABLES, F27)
         self.keyspaces[keyspace].add(table)
         self.numbers[(keyspace, table)] = self.made
-        self.rows[self.made], self.counts[self.made] = {}, 0
+        self.rows[self.made] = {}
         self.made += 1
         return "ok"
 
@@ -308,6 +356,7 @@ class Plain:
         refuse_if(not tables, F12)
         refuse_if(source == target, F11)
         refuse_if(source not in self.keyspaces or target not in self.keyspaces, F1)
+        refuse_if(self.cuts[source], F33)
         for table in tables:
             refuse_if(not self.has_table(source, table), F2)
             refuse_if(self.mover(table), F8)
@@ -318,56 +367,78 @@ class Plain:
         refuse_if(len(self.lives) >= MOST_WORKFLOWS, F27)
         refuse_if(len(self.tables_at(target)) + len(tables) > MOST_TABLES, F27)
         refuse_if(self.rule_count() + self.keys_without_rule(source, target, tables) > MOST_RULES, F27)
-        w = Live(name, source, target, tables, len(self.logs[source]), 0)
-        w.fed = self.write_count(w)
+        lanes = [Lane(shard, len(self.logs[(source, 0)])) for shard in range(len(self.cuts[target]) + 1)]
+        w = Live(name, source, target, tables, self.cuts[target], lanes)
+        for lane in lanes:
+            lane.fed = lane.written = len(self.lane_writes(w, lane))
         self.lives.append(w)
         return "ok"
 
+    def log_of(self, w, keyspace, lane):
+        """The log of the primary of a side, which of the target is that of the shard of a lane."""
+        return self.logs[(keyspace, lane.shard if keyspace == w.target else 0)]
+
+    def uncopied(self, w, lane):
+        """The rows of a lane's shard that are still to be copied."""
+        for table in w.tables:
+            for key, row in sorted(self.rows[self.numbers[(w.source, table)]].items()):
+                if row is not None and w.lane_of(key) is lane and not w.is_copied(table, key):
+                    yield table, key
+
     def advance(self, name, stream, at, most):
+        stream, slash, text = stream.partition("/")
+        text = text if slash else "-"
+        read_range(text)
         w = self.live(name)
-        slot = w.slot(stream)
+        ranges = ranges_of(w.cuts)
+        refuse_if(text not in ranges, F32)
+        return self.turn(w, stream, w.lanes[ranges.index(text)], at, most)
+
+    def turn(self, w, stream, lane, at, most):
+        """A turn of the stream of a lane."""
+        slot = w.slot(stream, lane.shard)
         refuse_if(not slot or slot[0] != "running", F26)
         refuse_if(at != slot[1], F25)
         read, written = w.sides() if stream == "forward" else w.sides()[::-1]
-        past = self.logs[read][at:]
-        taken, rows = past[:most], []
+        past = self.log_of(w, read, lane)[at:]
+        taken, rows = [(table, key) for table, key in past[:most] if table in w.tables and w.lane_of(key) is lane], []
         if past:
-            self.logs[written] += [it for it in taken if w.is_applied(*it)]
+            self.log_of(w, written, lane).extend(it for it in taken if w.is_copied(*it))
         else:
-            keys = [(table, key) for table in w.tables for key, row in sorted(self.rows[self.numbers[(w.source, table)]].items()) if row is not None]
-            left = [it for it in keys if not w.is_applied(*it)]
+            left = list(self.uncopied(w, lane))
             rows = left[:most]
-            self.logs[written] += rows
+            self.log_of(w, written, lane).extend(rows)
             if len(rows) < most and len(rows) == len(left):
-                w.copied = "ended"
+                lane.copied = "ended"
             elif rows:
-                w.copied = (w.tables.index(rows[-1][0]), rows[-1][1])
-        w.fed += sum(table in w.tables for table, _ in taken)
+                lane.copied = (w.tables.index(rows[-1][0]), rows[-1][1])
+        events = len(past[:most])
+        lane.fed += len(taken)
         is_fresh = w.way and "primary" in w.way.changed() and w.way.back != (stream == "back") and w.way.stands_done(CREATE_BACK)
-        setattr(w, "fresh_at" if is_fresh else f"{stream}_at", at + len(taken))
-        return f"events {len(taken)} rows {len(rows)}"
+        setattr(lane, "fresh_at" if is_fresh else f"{stream}_at", at + events)
+        return f"events {events} rows {len(rows)}"
 
     def begin_switch(self, name, types):
         w = self.live(name)
         refuse_if(w.way, F13)
         refuse_if(not types_of(types) - w.switched, F15)
-        refuse_if(w.copied != "ended", F17)
-        w.way = Way(False, w.switched, w.switched | types_of(types))
+        refuse_if(any(lane.copied != "ended" for lane in w.lanes), F17)
+        w.way = Way(False, len(w.lanes), w.switched, w.switched | types_of(types))
         return "ok"
 
     def begin_reverse(self, name, types):
         w = self.live(name)
         refuse_if(w.way, F13)
         refuse_if(not types_of(types) & w.switched, F16)
-        w.way = Way(True, w.switched, w.switched - types_of(types))
+        w.way = Way(True, len(w.lanes), w.switched, w.switched - types_of(types))
         return "ok"
 
     def own_refusal(self, w, step):
         way = w.way
         if step == READS:
-            refuse_if(way.back == ("primary" in way.before) and self.is_behind(w), F18)
+            refuse_if(way.back == ("primary" in way.before) and w.is_behind(), F18)
         if step == CATCH_UP:
-            refuse_if(self.is_behind(w), F18)
+            refuse_if(w.is_behind(), F18)
         if step in (REFRESH_SOURCE, REFRESH_TARGET):
             refuse_if((w.old_owner() if step == REFRESH_SOURCE else w.new_owner()) not in self.scopes, F24)
         if step == JOURNAL:
@@ -381,15 +452,15 @@ class Plain:
         refuse_if(at != way.done, F25)
         step = way.next_step()
         self.own_refusal(w, step)
-        if step == CREATE_BACK:
-            w.fresh_at = len(self.logs[w.new_owner()])
+        for lane in w.lanes if step == CREATE_BACK else []:
+            lane.fresh_at = len(self.log_of(w, w.new_owner(), lane))
         if step == JOURNAL:
             w.switched = way.after
             self.journal += 1
         way.done += 1
         if way.next_step() == way.behind_last():
-            if "primary" in way.changed():
-                setattr(w, "forward_at" if way.back else "back_at", w.fresh_at)
+            for lane in w.lanes if "primary" in way.changed() else []:
+                setattr(lane, "forward_at" if way.back else "back_at", lane.fresh_at)
             w.switched, w.way = way.after, None
         return "ok"
 
@@ -429,11 +500,8 @@ class Plain:
         w = self.live(name)
         way = w.way
         told = f"{'back' if way.back else 'forward'} {types_text(way.changed())} {way.done}{' undoing' * way.undoing}" if way else "none"
-        forward, back = w.slot("forward"), w.slot("back")
-        copied = "copied" if w.copied == "ended" else "copying"
-        back_told = f"{back[0]} {back[1]}" if back else "none"
-        tables, switched = ",".join(w.tables), types_text(w.switched)
-        return f"{w.name} {w.source} {w.target} {tables} switched {switched} way {told} forward {forward[0]} {forward[1]} {copied} back {back_told}"
+        tables, switched, forward, back = ",".join(w.tables), types_text(w.switched), w.stream_text("forward"), w.stream_text("back")
+        return f"{w.name} {w.source} {w.target} {tables} switched {switched} way {told} forward {forward} back {back}"
 
     # ---- whole switches
 
@@ -450,7 +518,8 @@ class Plain:
                         raise
                     tries -= 1
                     stream = "back" if w.way.back else "forward"
-                    self.advance(name, stream, w.slot(stream)[1], MOST_AT_ONCE)
+                    for lane in w.lanes:
+                        self.turn(w, stream, lane, w.slot(stream, lane.shard)[1], MOST_AT_ONCE)
                 except Refused as last:
                     if w.way.stands_done(JOURNAL):
                         return f"stopped {last} {w.way.done}"
@@ -470,7 +539,7 @@ class Plain:
         if verb == "dump":
             sides = {(keyspace, table) for w in self.lives for keyspace in w.sides() for table in w.tables if w.is_denied(keyspace, DENY, ALLOW)}
             document["denied"] = sorted(map(".".join, sides))
-            document["keyspaces"] = [{"name": keyspace, "shards": ["-"], "tables": self.tables_at(keyspace)} for keyspace in sorted(self.keyspaces)]
+            document["keyspaces"] = [{"name": it, "shards": ranges_of(self.cuts[it]), "tables": self.tables_at(it)} for it in sorted(self.keyspaces)]
             document["version"] = 2
         return json.dumps(document, separators=(",", ":"), sort_keys=True)
 

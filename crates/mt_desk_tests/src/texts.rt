@@ -6,15 +6,16 @@ use mt_names::{
     KeyspaceName, RuleKey, RuleTarget, ShardList, TableName, TypeSet, WorkflowName, table_list,
 };
 use mt_script::{
-    CreateWords, Line, LineText, QualifiedName, RowAsked, WorkflowAsked, put_answer, read,
+    AdvanceWords, CreateWords, Line, LineText, QualifiedName, RowAsked, WorkflowAsked, put_answer,
+    read,
 };
 
-/// The event that a line asks for; none if it asks for none, for several, or where a name leads.
+/// The event that a line asks for; none if it asks for none, for several, where a name leads, or in a shard that has a range.
 pub fn event_of(line: &str) -> Option<Event> {
     match read(line.as_bytes()) {
-        Line::Keyspace(name) => Some(Event::AddKeyspace {
+        Line::Keyspace(name, shards) => Some(Event::AddKeyspace {
             keyspace: KeyspaceName::parse(name).ok()?,
-            shards: ShardList::unsharded(),
+            shards: ShardList::parse(shards).ok()?,
         }),
         Line::Table(keyspace, name) => Some(Event::AddTable {
             keyspace: KeyspaceName::parse(keyspace).ok()?,
@@ -66,17 +67,25 @@ fn create(words: CreateWords<'_>) -> Option<Event> {
     })
 }
 
+/// An advance of a stream of a target that isn't sharded.
+fn in_one_shard(workflow: WorkflowName, words: &AdvanceWords<'_>) -> Option<Event> {
+    if words.range != "-" {
+        return None;
+    }
+    Some(Event::Advance {
+        workflow,
+        stream: words.stream,
+        shard: 0,
+        at: words.at,
+        max: words.max,
+    })
+}
+
 /// What is asked for of a workflow that is there, if it is one event.
 fn event_asked(name: &str, asked: WorkflowAsked<'_>) -> Option<Event> {
     let workflow = WorkflowName::parse(name).ok()?;
     match asked {
-        WorkflowAsked::Advance(stream, at, max) => Some(Event::Advance {
-            workflow,
-            stream,
-            shard: 0,
-            at,
-            max,
-        }),
+        WorkflowAsked::Advance(words) => in_one_shard(workflow, &words),
         WorkflowAsked::BeginSwitch(types) => Some(Event::BeginSwitch {
             workflow,
             types: TypeSet::parse(types).ok()?,

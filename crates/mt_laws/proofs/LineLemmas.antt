@@ -1,7 +1,7 @@
 -- What a line asks for: no text of it has a line feed, and so none that it tells.
 use Rattle.std.proofs.Common.{ℕ, ◌+◌, true, false, cond, eqb, List, [], ◌∷◌, ◌++◌, length, Option, None, Some, Result, Ok, Err, unwrap_or, refl}
 use Rattle.std.specs.List.{AllByRecursion, ends_with, list_any, slice_split}
-use Rattle.std.specs.Prelude.{⊤, nat_eq, nat_lt}
+use Rattle.std.specs.Prelude.{⊤, nat_eq, nat_lt, not}
 use Rattle.mt_names.specs.declared.fault.NameFault.{NameFault}
 use Rattle.mt_names.specs.declared.fault.NameFault.TheVariants as name
 use Rattle.mt_names.specs.declared.keys.RuleKey.{RuleKey}
@@ -13,6 +13,7 @@ use Rattle.mt_names.specs.Faults.{fault_text}
 use Rattle.mt_names.specs.Keys.{after, at_sign, before, dot, fault_behind, read_dotted, read_key, read_key_type, read_plain_key, read_target, read_target_parts}
 use Rattle.mt_names.specs.Names.{bad_place, dash, longest_name, read_keyspace, read_name, read_table, read_workflow, reverse_suffix, same_text, unless_bad, unless_reserved}
 use Rattle.mt_names.specs.Results.{◌>>=◌}
+use Rattle.mt_names.specs.Shards.{KeyRange, cuts_behind, cuts_of_ranges, is_open, is_range, most_shards, place_of_range, range_from, read_range, read_ranges_after, read_shards, shard_count, with_range}
 use Rattle.mt_names.specs.Tables.{most_tables, read_table_list, read_tables_after, with_table, with_word}
 use Rattle.mt_names.specs.Types.{comma, read_type, read_type_set}
 use Rattle.mt_model.specs.declared.faults.TopologyFault.{TopologyFault}
@@ -20,11 +21,12 @@ use Rattle.mt_model.specs.declared.faults.TopologyFault.TheVariants as topology
 use Rattle.mt_model.specs.Faults.{topology_fault_text}
 use Rattle.mt_model.specs.Topology.{resolution}
 use Rattle.mt_plain.specs.Drive.{Driving, begins}
-use Rattle.mt_plain.specs.Events.{Event, write, read}
+use Rattle.mt_plain.specs.Events.{Event, Refusal, write, read}
 use Rattle.mt_plain.specs.Events as core
-use Rattle.mt_plain.specs.Output.{Told, nothing, says, asks, drives, asked_there, refused_text, told_line, told_request}
-use Rattle.mt_plain.specs.Plain.{Plain}
-use Rattle.mt_plain.specs.Script.{Command, keyspace, table, rule, change, get, change_at, get_at, create, advance, begin_switch, begin_reverse, step, undo, switch, reverse, cancel, complete, show, rules, dump, Line, silent, command, bad_line, line_too_long, Request, event, write_through, read_through, drive, rules_document, dump_document, read_rule_target, request_of, type_of}
+use Rattle.mt_plain.specs.Output.{Told, nothing, says, asks, drives, asked_in, asked_there, refused_text, told_line, told_request}
+use Rattle.mt_plain.specs.Plain.{Live, Plain, live_at}
+use Rattle.mt_plain.specs.Refuse.{shard_of_range}
+use Rattle.mt_plain.specs.Script.{Command, keyspace, table, rule, change, get, change_at, get_at, create, advance, begin_switch, begin_reverse, step, undo, switch, reverse, cancel, complete, show, rules, dump, Line, silent, command, bad_line, line_too_long, Request, event, write_through, read_through, advance_in, drive, rules_document, dump_document, read_rule_target, request_of, type_of}
 use Rattle.mt_plain.specs.Serve.{served}
 use Rattle.mt_laws.proofs.CleanLemmas.{CleanEvent, CleanKey, CleanOp, CleanTarget, IsClean, served-clean}
 use Rattle.mt_laws.proofs.DocumentLemmas.{dump_text-no_feed, rules_text-no_feed}
@@ -135,6 +137,50 @@ read_table_list-of text none =
     cond-either (OfOk (AllByRecursion NoFeed)) (same_text text (dash ∷ [])) (Ok []) (read_tables_after [] 0 (slice_split (λ byte. eqb byte comma) text)) tt
     (read_tables_after-of (slice_split (λ byte. eqb byte comma) text) [] 0 tt (no_feed-slice_split (λ byte. eqb byte comma) text none))
 
+-- ---- shards
+
+pub record CleanRange (range : KeyRange) : Type 0 where
+  pub start : NoFeed range.start
+  pub end : NoFeed range.end
+
+range_from-of : (start : List ℕ) (o : Option (List ℕ)) → NoFeed start → OfSome NoFeed o → OfOk CleanRange (range_from start o)
+range_from-of start None first second = tt
+range_from-of start (Some end) first second =
+    cond-either (OfOk CleanRange) (is_range (record { start = start; end = end })) (Ok (record { start = start; end = end })) (Err name.BadRange) (record { start = first; end = second }) tt
+
+read_range-of : (text : List ℕ) → NoFeed text → OfOk CleanRange (read_range text)
+read_range-of text none = range_from-of (before dash text) (after dash text) (before-no_feed dash text none) (after-no_feed dash text none)
+
+with_range-of : (ranges : List KeyRange) (range : KeyRange) → AllByRecursion CleanRange ranges → CleanRange range → OfOk (AllByRecursion CleanRange) (with_range ranges range)
+with_range-of ranges range all is =
+    cond-either (OfOk (AllByRecursion CleanRange)) (eqb (length ranges) most_shards) (Err name.TooMany) (Ok (ranges ++ range ∷ [])) tt (append-all CleanRange ranges (range ∷ []) all (is, tt))
+
+read_ranges_after-of : (words : List (List ℕ)) (ranges : List KeyRange) → AllByRecursion CleanRange ranges → AllByRecursion NoFeed words → OfOk (AllByRecursion CleanRange) (read_ranges_after ranges words)
+read_ranges_after-of [] ranges all none = all
+read_ranges_after-of (word ∷ words) ranges all none =
+    then-of CleanRange (AllByRecursion CleanRange) (read_range word) (λ range. with_range ranges range >>= λ more. read_ranges_after more words) (read_range-of word none.0)
+    (λ range is. then-of (AllByRecursion CleanRange) (AllByRecursion CleanRange) (with_range ranges range) (λ more. read_ranges_after more words) (with_range-of ranges range all is)
+    (λ more are. read_ranges_after-of words more are none.1))
+
+cuts_behind-of : (ranges : List KeyRange) (start : List ℕ) → AllByRecursion CleanRange ranges → OfOk (AllByRecursion NoFeed) (cuts_behind start ranges)
+cuts_behind-of [] start all = tt
+cuts_behind-of (range ∷ ranges) start all =
+    cond-either (OfOk (AllByRecursion NoFeed)) (not (same_text range.start start)) (Err name.NotCovering)
+    (cond (is_open range.end) (cond (eqb (length ranges) 0) (Ok []) (Err name.NotCovering)) (cuts_behind range.end ranges >>= λ cuts. Ok (range.end ∷ cuts))) tt
+    (cond-either (OfOk (AllByRecursion NoFeed)) (is_open range.end) (cond (eqb (length ranges) 0) (Ok []) (Err name.NotCovering)) (cuts_behind range.end ranges >>= λ cuts. Ok (range.end ∷ cuts))
+    (cond-either (OfOk (AllByRecursion NoFeed)) (eqb (length ranges) 0) (Ok []) (Err name.NotCovering) tt tt)
+    (then-of (AllByRecursion NoFeed) (AllByRecursion NoFeed) (cuts_behind range.end ranges) (λ cuts. Ok (range.end ∷ cuts)) (cuts_behind-of ranges range.end all.1) (λ cuts are. (all.0.end, are))))
+
+cuts_of_ranges-of : (ranges : List KeyRange) → AllByRecursion CleanRange ranges → OfOk (AllByRecursion NoFeed) (cuts_of_ranges ranges)
+cuts_of_ranges-of [] all = tt
+cuts_of_ranges-of (range ∷ ranges) all = cuts_behind-of (range ∷ ranges) [] all
+
+read_shards-of : (text : List ℕ) → NoFeed text → OfOk (AllByRecursion NoFeed) (read_shards text)
+read_shards-of [] none = tt
+read_shards-of (byte ∷ bytes) none =
+    then-of (AllByRecursion CleanRange) (AllByRecursion NoFeed) (read_ranges_after [] (slice_split (λ b. eqb b comma) (byte ∷ bytes))) cuts_of_ranges
+    (read_ranges_after-of (slice_split (λ b. eqb b comma) (byte ∷ bytes)) [] tt (no_feed-slice_split (λ b. eqb b comma) (byte ∷ bytes) none)) (λ ranges are. cuts_of_ranges-of ranges are)
+
 -- ---- requests
 
 abbrev pub CleanRequest : Request → Type 0
@@ -143,7 +189,9 @@ CleanRequest (write_through key op) = CleanOp op
 CleanRequest other = ⊤
 
 request_of-clean : (c : Command) → CleanCommand c → OfOk CleanRequest (request_of c)
-request_of-clean (keyspace n) is = then-of NoFeed CleanRequest (read_keyspace n) (λ k. Ok (event (core.add_keyspace k []))) (read_name-of PlainBytes n is) (λ k none. (none, tt))
+request_of-clean (keyspace n shards) is =
+    then-of NoFeed CleanRequest (read_keyspace n) (λ k. read_shards shards >>= λ cuts. Ok (event (core.add_keyspace k cuts))) (read_name-of PlainBytes n is.0)
+    (λ k none. then-of (AllByRecursion NoFeed) CleanRequest (read_shards shards) (λ cuts. Ok (event (core.add_keyspace k cuts))) (read_shards-of shards is.1) (λ cuts all. (none, all)))
 request_of-clean (table n n') is =
     then-each CleanRequest (read_keyspace n) (λ k. read_table n' >>= λ t. Ok (event (core.add_table k t)))
     (λ k. then-of NoFeed CleanRequest (read_table n') (λ t. Ok (event (core.add_table k t))) (read_name-of WithDollar n' is.0) (λ t none. none))
@@ -160,7 +208,8 @@ request_of-clean (create workflow source target tables) is =
     (λ s s_is. then-of NoFeed CleanRequest (read_keyspace target) (λ g. read_table_list tables >>= λ ts. Ok (event (core.create w s g ts))) (read_name-of PlainBytes target is.2)
     (λ g g_is. then-of (AllByRecursion NoFeed) CleanRequest (read_table_list tables) (λ ts. Ok (event (core.create w s g ts))) (read_table_list-of tables is.3)
     (λ ts ts_are. (w_is, s_is, g_is, ts_are)))))
-request_of-clean (advance workflow stream at most) is = then-each CleanRequest (read_workflow workflow) (λ w. Ok (event (core.advance w stream 0 at most))) (λ w. tt)
+request_of-clean (advance workflow stream range at at_most) is =
+    then-each CleanRequest (read_workflow workflow) (λ w. read_range range >>= λ r. Ok (advance_in w stream r at at_most)) (λ w. then-each CleanRequest (read_range range) (λ r. Ok (advance_in w stream r at at_most)) (λ r. tt))
 request_of-clean (begin_switch workflow types) is =
     then-each CleanRequest (read_workflow workflow) (λ w. read_type_set types >>= λ t. Ok (event (core.begin_switch w t))) (λ w. then-each CleanRequest (read_type_set types) (λ t. Ok (event (core.begin_switch w t))) (λ t. tt))
 request_of-clean (begin_reverse workflow types) is =
@@ -224,6 +273,14 @@ told_request-tells p (Ok (read_through key number tablet_type)) clean of =
     asked_there-tells (resolution (served p) key tablet_type) (λ keyspace table. read keyspace table number tablet_type) (λ keyspace table. tt)
 told_request-tells p (Ok (drive workflow types backward)) clean of = tt
 told_request-tells p (Ok rules_document) clean of = rules_text-no_feed (served p) (served-clean p clean)
+told_request-tells p (Ok (advance_in workflow stream range at at_most)) clean of = by (live_at p workflow)
+  where
+    of_shard : Result ℕ Refusal → Type 0
+    of_shard found = Tells (asked_in found (λ shard. core.advance workflow stream shard at at_most))
+
+    by : (o : Option Live) → of_shard (shard_of_range o range)
+    by None = record { all = refl }
+    by (Some w) = cond-either of_shard (nat_lt (place_of_range w.cuts range) (shard_count w.cuts)) (Ok (place_of_range w.cuts range)) (Err core.no_shard) tt (record { all = refl })
 told_request-tells p (Ok dump_document) clean of = dump_text-no_feed (served p) (served-clean p clean)
 
 pub told_line-tells : (p : Plain) (line : Line) → IsClean p → Speaks line → Tells (told_line p line)

@@ -8,11 +8,12 @@ use Rattle.mt_model.specs.declared.faults.TopologyFault.{TopologyFault}
 use Rattle.mt_model.specs.Topology.{resolution}
 use Rattle.mt_plain.specs.Answers.{Answers, answer_of}
 use Rattle.mt_plain.specs.Drive.{Drives, Driving, begins, steps, feeds, gives_up, EndRule, GoesOn, Heard, goes_on, ends, event_of, heard, most_turns}
-use Rattle.mt_plain.specs.Events.{Event, write, read, Answer}
+use Rattle.mt_plain.specs.Events.{Event, advance, write, read, Answer, Refusal}
 use Rattle.mt_plain.specs.Next.{next}
-use Rattle.mt_plain.specs.Output.{Adds, AnswersWithMemory, Output, Reading, Rest, Says, Told, nothing, says, asks, drives, answer_text, asked_there, drive_then, ended_text, goes_then, line_feed, output_from, told, told_line, told_request, told_then}
-use Rattle.mt_plain.specs.Plain.{Plain}
-use Rattle.mt_plain.specs.Script.{Line, silent, command, bad_line, line_too_long, Request, event, write_through, read_through, drive, rules_document, dump_document, request_of}
+use Rattle.mt_plain.specs.Output.{Adds, AnswersWithMemory, Output, Reading, Rest, Says, Told, nothing, says, asks, drives, answer_text, asked_in, asked_there, drive_then, ended_text, goes_then, line_feed, output_from, told, told_line, told_request, told_then}
+use Rattle.mt_plain.specs.Plain.{Plain, live_at}
+use Rattle.mt_plain.specs.Refuse.{shard_of_range}
+use Rattle.mt_plain.specs.Script.{Line, silent, command, bad_line, line_too_long, Request, event, write_through, read_through, advance_in, drive, rules_document, dump_document, request_of}
 use Rattle.mt_plain.specs.Serve.{served}
 use Rattle.mt_laws.proofs.AnswerLemmas.{answers-answer_of}
 use Rattle.mt_laws.specs.Turns.{Fits, FitsHeard}
@@ -39,12 +40,17 @@ asked_there-begins : (found : Result RuleTarget TopologyFault) (ask : (keyspace 
 asked_there-begins (Ok target) ask = tt
 asked_there-begins (Err fault) ask = tt
 
+asked_in-begins : (found : Result ℕ Refusal) (ask : (shard : ℕ) → Event) → BeginsIfDrives (asked_in found ask)
+asked_in-begins (Ok shard) ask = tt
+asked_in-begins (Err refusal) ask = tt
+
 told_request-begins : (p : Plain) (r : Result Request NameFault) → BeginsIfDrives (told_request p r)
 told_request-begins p (Err fault) = tt
 told_request-begins p (Ok (event e)) = tt
 told_request-begins p (Ok (write_through key op)) = asked_there-begins (resolution (served p) key Primary) (λ keyspace table. write keyspace table op)
 told_request-begins p (Ok (read_through key number tablet_type)) = asked_there-begins (resolution (served p) key tablet_type) (λ keyspace table. read keyspace table number tablet_type)
 told_request-begins p (Ok (drive workflow types backward)) = tt
+told_request-begins p (Ok (advance_in workflow stream range at at_most)) = asked_in-begins (shard_of_range (live_at p workflow) range) (λ shard. advance workflow stream shard at at_most)
 told_request-begins p (Ok rules_document) = tt
 told_request-begins p (Ok dump_document) = tt
 

@@ -9,7 +9,7 @@ use Rattle.mt_model.specs.declared.rows.Op.{Op}
 use Rattle.mt_model.specs.declared.rows.Op.TheVariants.{Insert, Update, Append, Delete}
 use Rattle.mt_model.specs.Limits.{longest_value}
 use Rattle.mt_model.specs.Rows.{RowValue}
-use Rattle.mt_plain.specs.Script.{Command, keyspace, table, rule, change, get, change_at, get_at, create, advance, begin_switch, begin_reverse, step, undo, switch, reverse, cancel, complete, show, rules, dump, Line, silent, command, bad_line, line_too_long, MAX_LINE_LENGTH, change_of, command_of, commanded, four_words, is_blank, is_for_reads, is_qualified, is_readable, is_row_verb, is_silent, is_visible, is_word, no_word, one_word, op_of, read_advance, read_at, read_command, read_get, read_line_by, read_number, read_row_command, read_small_number, read_stream, read_value, read_workflow_command, three_words, two_words, with_number, with_types, with_value, without_value, words_of}
+use Rattle.mt_plain.specs.Script.{Command, keyspace, table, rule, change, get, change_at, get_at, create, advance, begin_switch, begin_reverse, step, undo, switch, reverse, cancel, complete, show, rules, dump, Line, silent, command, bad_line, line_too_long, MAX_LINE_LENGTH, change_of, command_of, commanded, four_words, is_blank, is_for_reads, is_qualified, is_readable, is_row_verb, is_silent, is_visible, is_word, no_word, one_word, op_of, read_advance, read_at, read_command, read_get, read_line_by, read_number, read_row_command, read_small_number, read_new_keyspace, read_ranged_stream, read_stream, read_value, read_workflow_command, three_words, two_words, with_number, with_types, with_value, without_value, words_of}
 use Rattle.mt_laws.specs.Lines.{KnowsSome}
 use Rattle.mt_laws.proofs.CleanLemmas.{CleanOp, CleanValue}
 use Rattle.mt_laws.proofs.ListLemmas.{OfSome, cond-either, cond-holds, filter-all, option_and_then-of, option_map-of}
@@ -38,7 +38,7 @@ no_feed-words line seen = filter-all NoFeed is_word (slice_split is_blank line) 
 -- ---- the command of words
 
 abbrev pub CleanCommand : Command → Type 0
-CleanCommand (keyspace name) = NoFeed name
+CleanCommand (keyspace name shards) = NoFeed name × NoFeed shards
 CleanCommand (table name name') = NoFeed name' × NoFeed name
 CleanCommand (rule key target) = NoFeed key × NoFeed target
 CleanCommand (change name op) = CleanOp op
@@ -146,10 +146,10 @@ read_at-clean (name ∷ verb ∷ words) all =
 
 read_advance-clean : (words : List (List ℕ)) → IfCommand (read_advance words)
 read_advance-clean words =
-    whatever_then (λ w. option_and_then (λ stream. option_and_then (λ at. option_map (advance w.0 stream at) (read_small_number w.3)) (read_number w.2)) (read_stream w.1)) (four_words words)
-    (λ w. whatever_then (λ stream. option_and_then (λ at. option_map (advance w.0 stream at) (read_small_number w.3)) (read_number w.2)) (read_stream w.1)
-    (λ stream. whatever_then (λ at. option_map (advance w.0 stream at) (read_small_number w.3)) (read_number w.2)
-    (λ at. whatever (advance w.0 stream at) (read_small_number w.3) (λ n. tt))))
+    whatever_then (λ w. option_and_then (λ stream. option_and_then (λ at. option_map (advance w.0 stream.0 stream.1 at) (read_small_number w.3)) (read_number w.2)) (read_ranged_stream w.1)) (four_words words)
+    (λ w. whatever_then (λ stream. option_and_then (λ at. option_map (advance w.0 stream.0 stream.1 at) (read_small_number w.3)) (read_number w.2)) (read_ranged_stream w.1)
+    (λ stream. whatever_then (λ at. option_map (advance w.0 stream.0 stream.1 at) (read_small_number w.3)) (read_number w.2)
+    (λ at. whatever (advance w.0 stream.0 stream.1 at) (read_small_number w.3) (λ n. tt))))
 
 with_number-clean : (make : List ℕ → ℕ → Command) (words : List (List ℕ)) → ((w : List ℕ) (n : ℕ) → CleanCommand (make w n)) → IfCommand (with_number make words)
 with_number-clean make words each = whatever_then (λ w. option_map (make w.0) (read_number w.1)) (two_words words) (λ w. whatever (make w.0) (read_number w.1) (each w.0))
@@ -191,6 +191,12 @@ no_word-clean : (words : List (List ℕ)) (o : Option Command) → IfCommand o �
 no_word-clean [] o is = is
 no_word-clean (word ∷ words) o is = tt
 
+new_keyspace-clean : (words : List (List ℕ)) → AllByRecursion NoFeed words → IfCommand (read_new_keyspace words)
+new_keyspace-clean [] all = tt
+new_keyspace-clean (name ∷ []) all = (all.0, record { all = refl })
+new_keyspace-clean (name ∷ shards ∷ []) all = (all.0, all.1.0)
+new_keyspace-clean (name ∷ shards ∷ word ∷ words) all = tt
+
 read_command-clean : (verb : List ℕ) (words : List (List ℕ)) → AllByRecursion NoFeed words → IfCommand (read_command verb words)
 read_command-clean verb words all =
     let row_or = cond (is_row_verb verb) (read_row_command change get verb words) (read_workflow_command verb words) in
@@ -199,7 +205,7 @@ read_command-clean verb words all =
     let rules_or = cond (same_text verb (codes "rules")) (no_word words (Some rules)) dump_or in
     let rule_or = cond (same_text verb (codes "rule")) (option_map (λ w. rule w.0 w.1) (two_words words)) rules_or in
     let table_or = cond (same_text verb (codes "table")) (option_map (λ w. table w.0 w.1) (two_words words)) rule_or in
-    or-clean (same_text verb (codes "keyspace")) (option_map keyspace (one_word words)) table_or (option_map-of NoFeed CleanCommand keyspace (one_word words) (λ w is. is) (one_word-of words all))
+    or-clean (same_text verb (codes "keyspace")) (read_new_keyspace words) table_or (new_keyspace-clean words all)
     (or-clean (same_text verb (codes "table")) (option_map (λ w. table w.0 w.1) (two_words words)) rule_or (option_map-of Two CleanCommand (λ w. table w.0 w.1) (two_words words) (λ w is. (is.1, is.0)) (two_words-of words all))
     (or-clean (same_text verb (codes "rule")) (option_map (λ w. rule w.0 w.1) (two_words words)) rules_or (option_map-of Two CleanCommand (λ w. rule w.0 w.1) (two_words words) (λ w is. is) (two_words-of words all))
     (or-clean (same_text verb (codes "rules")) (no_word words (Some rules)) dump_or (no_word-clean words (Some rules) tt)

@@ -21,11 +21,12 @@ use Rattle.mt_model.specs.Topology.{resolution}
 use Rattle.mt_plain.specs.Answers.{AnswerRule, Answers, answer_of}
 use Rattle.mt_plain.specs.Drive.{Driven, Drives, Driving, begins, Heard, goes_on, ends, event_of, heard, most_turns}
 use Rattle.mt_plain.specs.Drive as driven
-use Rattle.mt_plain.specs.Events.{Event, write, read, Way, Refusal, StreamState, running, stopped, frozen, Slot, Shown, ShownLane, Answer, done, row, advanced, shown, refused, refusal_text}
+use Rattle.mt_plain.specs.Events.{Event, write, read, advance, Way, Refusal, StreamState, running, stopped, frozen, Slot, Shown, ShownLane, Answer, done, row, advanced, shown, refused, refusal_text}
 use Rattle.mt_plain.specs.Next.{next}
 use Rattle.mt_plain.specs.Numbers.{number_text}
-use Rattle.mt_plain.specs.Plain.{Plain, changed_types, opening}
-use Rattle.mt_plain.specs.Script.{Line, silent, command, bad_line, line_too_long, Request, event, write_through, read_through, drive, rules_document, dump_document, read_line, request_of}
+use Rattle.mt_plain.specs.Plain.{Plain, changed_types, live_at, opening}
+use Rattle.mt_plain.specs.Refuse.{shard_of_range}
+use Rattle.mt_plain.specs.Script.{Line, silent, command, bad_line, line_too_long, Request, event, write_through, read_through, advance_in, drive, rules_document, dump_document, read_line, request_of}
 use Rattle.mt_plain.specs.Serve.{served}
 
 -- a script has at most this many bytes
@@ -140,6 +141,11 @@ abbrev pub asked_there : Result RuleTarget TopologyFault → ((keyspace table : 
 asked_there (Ok target) ask = asks (ask target.keyspace target.table)
 asked_there (Err fault) ask = says (refused_text (topology_fault_text fault))
 
+-- a shard that is looked up by its range, and what is asked of it there
+abbrev pub asked_in : Result ℕ Refusal → ((shard : ℕ) → Event) → Told
+asked_in (Ok shard) ask = asks (ask shard)
+asked_in (Err refusal) ask = says (refused_text (refusal_text refusal))
+
 -- what a request tells in a state
 abbrev pub told_request : Plain → Result Request NameFault → Told
 told_request p (Err fault) = says (refused_text (fault_text fault))
@@ -148,6 +154,8 @@ told_request p (Ok (write_through key op)) = asked_there (resolution (served p) 
 told_request p (Ok (read_through key number tablet_type)) =
     asked_there (resolution (served p) key tablet_type) (λ keyspace table. read keyspace table number tablet_type)
 told_request p (Ok (drive workflow types backward)) = drives (begins workflow types backward)
+told_request p (Ok (advance_in workflow stream range at at_most)) =
+    asked_in (shard_of_range (live_at p workflow) range) (λ shard. advance workflow stream shard at at_most)
 told_request p (Ok rules_document) = says (rules_text (served p).rules)
 told_request p (Ok dump_document) = says (dump_text (served p))
 

@@ -4,7 +4,7 @@ use Rattle.std.specs.Prelude.{ℕ, ◌+◌, Bool, true, false, not, ◌&&◌, �
 use Rattle.std.specs.List.{list_any}
 use Rattle.std.specs.Option.{option_map_or}
 use Rattle.std.specs.Map.{lookup}
-use Rattle.mt_names.specs.Shards.{shard_count}
+use Rattle.mt_names.specs.Shards.{KeyRange, place_of_range, shard_count}
 use Rattle.mt_names.specs.declared.keys.RuleKey.{RuleKey}
 use Rattle.mt_names.specs.declared.keys.RuleTarget.{RuleTarget}
 use Rattle.mt_names.specs.declared.types.TabletType.{TabletType}
@@ -196,6 +196,13 @@ in_lane_at (Some lane) refusal = refusal lane
 abbrev pub advance_refusal : Plain → StreamName → (shard at at_most : ℕ) → Live → Option Refusal
 advance_refusal p name shard at at_most w =
     in_lane_at (lane_at w shard) (λ lane. advance_at p w lane name at at_most (running_at (slot_of w lane name)))
+
+-- the shard of a workflow's target that has a range, as it is written
+abbrev pub shard_of_range : Option Live → KeyRange → Result ℕ Refusal
+shard_of_range None range = Err no_workflow
+shard_of_range (Some w) range =
+    let shard = place_of_range w.cuts range in
+    if nat_lt shard (shard_count w.cuts) then Ok shard else Err no_shard
 
 -- whether a set of types has one that another lacks, and whether they share one
 abbrev pub has_more : TypeSet → TypeSet → Bool

@@ -11,6 +11,7 @@ use Rattle.mt_names.specs.declared.types.TypeSet.{TypeSet}
 use Rattle.mt_names.specs.Keys.{after, at_sign, before, dot, read_key, read_target}
 use Rattle.mt_names.specs.Names.{dash, read_keyspace, read_table, read_workflow, same_text}
 use Rattle.mt_names.specs.Results.{◌>>=◌}
+use Rattle.mt_names.specs.Shards.{KeyRange, read_range, read_shards}
 use Rattle.mt_names.specs.Tables.{read_table_list}
 use Rattle.mt_names.specs.Types.{read_type_set}
 use Rattle.mt_model.specs.declared.rows.Op.{Op}
@@ -78,6 +79,13 @@ read_small_number word = if is_number_of 5 (2 ^ 16) word then Some (number_of_di
 abbrev pub read_value : List ℕ → Option RowValue
 read_value word = if nat_le (length word) longest_value then Some (record { items = word }) else None
 
+-- a keyspace without shards is written with one that has no bound
+abbrev pub one_shard : List ℕ
+one_shard = dash ∷ []
+
+abbrev pub slash : ℕ
+slash = 47
+
 -- `forward` or `back`
 abbrev pub read_stream : List ℕ → Option StreamName
 read_stream word = if same_text word (codes "forward") then Some forward else if same_text word (codes "back") then Some back else None
@@ -86,7 +94,7 @@ read_stream word = if same_text word (codes "forward") then Some forward else if
 
 -- what a line commands, with its names as they are written
 pub data Command : Type 0 where
-  keyspace : List ℕ → Command
+  keyspace : (name shards : List ℕ) → Command
   table : (keyspace table : List ℕ) → Command
   rule : (key target : List ℕ) → Command
   change : (name : List ℕ) → Op → Command
@@ -94,7 +102,7 @@ pub data Command : Type 0 where
   change_at : (name : List ℕ) → Op → Command
   get_at : (name : List ℕ) → ℕ → Command
   create : (workflow source target tables : List ℕ) → Command
-  advance : (workflow : List ℕ) → StreamName → (at most : ℕ) → Command
+  advance : (workflow : List ℕ) → StreamName → (range : List ℕ) → (at most : ℕ) → Command
   begin_switch : (workflow types : List ℕ) → Command
   begin_reverse : (workflow types : List ℕ) → Command
   step : (workflow : List ℕ) → ℕ → Command
@@ -188,10 +196,20 @@ abbrev pub read_at : List (List ℕ) → Option Command
 read_at (name ∷ verb ∷ words) = if is_qualified name then read_row_command change_at get_at verb (name ∷ words) else None
 read_at words = None
 
+-- a stream with its range, which is that of an unsharded keyspace where none is written
+abbrev pub read_ranged_stream : List ℕ → Option (StreamName × List ℕ)
+read_ranged_stream word = option_map (λ stream. (stream, unwrap_or (after slash word) one_shard)) (read_stream (before slash word))
+
 -- an advance: the workflow, the stream, the position, how many
 abbrev pub read_advance : List (List ℕ) → Option Command
 read_advance words =
-    option_and_then (λ w. option_and_then (λ stream. option_and_then (λ at. option_map (advance w.0 stream at) (read_small_number w.3)) (read_number w.2)) (read_stream w.1)) (four_words words)
+    option_and_then (λ w. option_and_then (λ stream. option_and_then (λ at. option_map (advance w.0 stream.0 stream.1 at) (read_small_number w.3)) (read_number w.2)) (read_ranged_stream w.1)) (four_words words)
+
+-- a keyspace, and its shards where they are written
+abbrev pub read_new_keyspace : List (List ℕ) → Option Command
+read_new_keyspace (name ∷ []) = Some (keyspace name one_shard)
+read_new_keyspace (name ∷ shards ∷ []) = Some (keyspace name shards)
+read_new_keyspace words = None
 
 -- a workflow and tablet types
 abbrev pub with_types : (List ℕ → List ℕ → Command) → List (List ℕ) → Option Command
@@ -216,7 +234,7 @@ read_workflow_command verb words =
 -- the command of a verb and the words behind it; `None` is a bad line
 abbrev pub read_command : List ℕ → List (List ℕ) → Option Command
 read_command verb words =
-    if same_text verb (codes "keyspace") then option_map keyspace (one_word words)
+    if same_text verb (codes "keyspace") then read_new_keyspace words
     else if same_text verb (codes "table") then option_map (λ w. table w.0 w.1) (two_words words)
     else if same_text verb (codes "rule") then option_map (λ w. rule w.0 w.1) (two_words words)
     else if same_text verb (codes "rules") then no_word words (Some rules)
@@ -258,11 +276,12 @@ read_line line = read_line_by command_of line
 
 -- ---- what a command asks for, once its names are read
 
--- an event; a write or a read of a name that is looked up first; a whole switch or reversal of traffic; or a document
+-- an event; a write or a read of a name that is looked up first; an advance in the shard of a range; a whole switch or reversal of traffic; or a document
 pub data Request : Type 0 where
   event : Event → Request
   write_through : RuleKey → Op → Request
   read_through : RuleKey → ℕ → TabletType → Request
+  advance_in : (workflow : List ℕ) → StreamName → KeyRange → (at most : ℕ) → Request
   drive : (workflow : List ℕ) → TypeSet → (backward : Bool) → Request
   rules_document : Request
   dump_document : Request
@@ -277,7 +296,7 @@ type_of key = unwrap_or key.tablet_type Primary
 
 -- names are read from left to right, and the first fault is told
 abbrev pub request_of : Command → Result Request NameFault
-request_of (keyspace name) = read_keyspace name >>= λ k. Ok (event (core.add_keyspace k []))
+request_of (keyspace name shards) = read_keyspace name >>= λ k. read_shards shards >>= λ cuts. Ok (event (core.add_keyspace k cuts))
 request_of (table name name') = read_keyspace name >>= λ k. read_table name' >>= λ t. Ok (event (core.add_table k t))
 request_of (rule key target) = read_key key >>= λ k. read_rule_target target >>= λ t. Ok (event (core.edit_rule k t))
 request_of (change name op) = read_key name >>= λ k. Ok (write_through k op)
@@ -286,7 +305,7 @@ request_of (change_at name op) = read_key name >>= λ k. Ok (event (core.write (
 request_of (get_at name number) = read_key name >>= λ k. Ok (event (core.read (unwrap_or k.keyspace []) k.table number (type_of k)))
 request_of (create workflow source target tables) =
     read_workflow workflow >>= λ w. read_keyspace source >>= λ s. read_keyspace target >>= λ g. read_table_list tables >>= λ ts. Ok (event (core.create w s g ts))
-request_of (advance workflow stream at most) = read_workflow workflow >>= λ w. Ok (event (core.advance w stream 0 at most))
+request_of (advance workflow stream range at most) = read_workflow workflow >>= λ w. read_range range >>= λ r. Ok (advance_in w stream r at most)
 request_of (begin_switch workflow types) = read_workflow workflow >>= λ w. read_type_set types >>= λ t. Ok (event (core.begin_switch w t))
 request_of (begin_reverse workflow types) = read_workflow workflow >>= λ w. read_type_set types >>= λ t. Ok (event (core.begin_reverse w t))
 request_of (step workflow at) = read_workflow workflow >>= λ w. Ok (event (core.step w at))

@@ -199,6 +199,7 @@ pub(crate) fn feed<R: Wait, G: Gate, D: DeskName, W: Asks + Drop, H: Wait + Drop
         worker,
         &workflow(),
         Slot::Forward,
+        1,
         MOST_AT_ONCE,
         TURNS,
     );

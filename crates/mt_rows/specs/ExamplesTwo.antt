@@ -36,7 +36,7 @@ abbrev pub example_031 : Type 0
 example_031 = output [] (codes "keyspace k1\r\nkeyspace k2\r\nkeyspace k3\r\ntable k1 corder\r\nk2\r\nget corder@rdonly 1\r\nget corder@replica@replica 1\r\ntable k2 corder\r\nget k2.corder@replica 0\r\nget corder 1\r\nget corder@replica 1\r\nget corder@rdonly 1\r\nget corder 1\r\nget corder@replica 1\r\nget corder@rdonly 1\n \n#") ≡ codes "ok\nok\nok\nok\nrefused X1 BadLine\nnone\nrefused N6 BadType\nok\nnone\nrefused T3 Ambiguous\nrefused T3 Ambiguous\nrefused T3 Ambiguous\nrefused T3 Ambiguous\nrefused T3 Ambiguous\nrefused T3 Ambiguous\n"
 
 abbrev pub example_032 : Type 0
-example_032 = output [] (codes "keyspace k1\nkeyspace k2\nkeyspace k3\ntable k1 t\ntable k1 u\ntable k1 v\nkeyspace k2\nget k2.t@primary 1\nkeyspace k3\nat$ k1.v@replica get 2\n   \r\nkeyspace -k x\nget t 1\nget t@replica 1\nget t@rdonly 1\nget u 1\nget u@replica 1\nget u@rdonly 1\nget v 1\nget v@replica 1\nget v@rdonly 1\n") ≡ codes "ok\nok\nok\nok\nok\nok\nrefused F30 Exists\nrefused F2 NoTable\nrefused F30 Exists\nrefused X1 BadLine\nrefused X1 BadLine\nnone\nnone\nnone\nnone\nnone\nnone\nnone\nnone\nnone\n"
+example_032 = output [] (codes "keyspace k1\nkeyspace k2\nkeyspace k3\ntable k1 t\ntable k1 u\ntable k1 v\nkeyspace k2\nget k2.t@primary 1\nkeyspace k3\nat$ k1.v@replica get 2\n   \r\nkeyspace -k x\nget t 1\nget t@replica 1\nget t@rdonly 1\nget u 1\nget u@replica 1\nget u@rdonly 1\nget v 1\nget v@replica 1\nget v@rdonly 1\n") ≡ codes "ok\nok\nok\nok\nok\nok\nrefused F30 Exists\nrefused F2 NoTable\nrefused F30 Exists\nrefused X1 BadLine\nrefused N3 BadByte\nnone\nnone\nnone\nnone\nnone\nnone\nnone\nnone\nnone\n"
 
 abbrev pub example_033 : Type 0
 example_033 = output [] (codes "keyspace k1\nkeyspace k2\nkeyspace k3\ntable k1 u\ntable k1 v\ntable k2 v\nget k1.t@primary 1\nkeyspace k3\nkeyspace k2\nRULES\nkeyspabe k3\nkeyspace k2\nrule k1.v@rdonly k1.t\nget t 1\nget t@replica 1\nget t@rdonly 1\nget u 1\nget u@replica 1\nget u@rdonly 1\nget v 1\nget v@replica 1\nget v@rdonly 1\n") ≡ codes "ok\nok\nok\nok\nok\nok\nrefused F2 NoTable\nrefused F30 Exists\nrefused F30 Exists\nrefused X1 BadLine\nrefused X1 BadLine\nrefused F30 Exists\nok\nrefused T2 NoTable\nrefused T2 NoTable\nrefused T2 NoTable\nnone\nnone\nnone\nrefused T3 Ambiguous\nrefused T3 Ambiguous\nrefused T3 Ambiguous\n"

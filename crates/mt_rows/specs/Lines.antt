@@ -55,3 +55,33 @@ bad_line_before_bad_name = ¬ (output [] (codes "insert -a 1x v\n") ≡ codes "r
 
 abbrev pub bad_name_before_look_up : Type 0
 bad_name_before_look_up = ¬ (output [] (codes "get a!b 1\n") ≡ codes "refused T2 NoTable\n")
+
+abbrev pub bad_range : Type 0
+bad_range = output [] (codes "keyspace k -8\n") ≡ codes "refused N9 BadRange\n"
+
+abbrev pub no_bad_range : Type 0
+no_bad_range = ¬ (output [] (codes "keyspace k -80,80-\n") ≡ codes "refused N9 BadRange\n")
+
+abbrev pub shards_that_do_not_cover : Type 0
+shards_that_do_not_cover = output [] (codes "keyspace k -80\n") ≡ codes "refused N10 NotCovering\n"
+
+abbrev pub shards_that_cover : Type 0
+shards_that_cover = ¬ (output [] (codes "keyspace k -\n") ≡ codes "refused N10 NotCovering\n")
+
+abbrev pub range_of_no_stream : Type 0
+range_of_no_stream = output [] (codes "advance w forward/8 0 1\n") ≡ codes "refused N9 BadRange\n"
+
+abbrev pub range_of_a_stream : Type 0
+range_of_a_stream = ¬ (output [] (codes "advance w forward/80- 0 1\n") ≡ codes "refused N9 BadRange\n")
+
+abbrev pub no_workflow_with_a_range : Type 0
+no_workflow_with_a_range = output [] (codes "advance w forward/80- 0 1\n") ≡ codes "refused F7 NoWorkflow\n"
+
+abbrev pub too_many_words_for_a_keyspace : Type 0
+too_many_words_for_a_keyspace = output [] (codes "keyspace k - -\n") ≡ codes "refused X1 BadLine\n"
+
+abbrev pub bad_name_before_bad_shards : Type 0
+bad_name_before_bad_shards = output [] (codes "keyspace -k 8\n") ≡ codes "refused N3 BadByte\n"
+
+abbrev pub bad_name_before_bad_range : Type 0
+bad_name_before_bad_range = output [] (codes "advance -w forward/8 0 1\n") ≡ codes "refused N3 BadByte\n"

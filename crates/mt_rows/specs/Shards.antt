@@ -1,123 +1,58 @@
--- Targets of several shards: worked runs with the output that their lines would have. A line has no words for shards yet, so each stands
--- here as what it asks for.
-use Rattle.std.specs.Prelude.{◌≡◌, ℕ, ◌+◌, ◌-◌, true, false, List, [], ◌∷◌, ◌++◌, codes, map, None, Some, Ok}
-use Rattle.std.specs.Str.Lines.{lines}
+-- Targets of several shards: worked runs with their output, and events one by one.
+use Rattle.std.specs.Prelude.{◌≡◌, ℕ, ◌+◌, ◌-◌, List, [], ◌∷◌, ◌++◌, codes, None, Some}
 use Rattle.mt_names.specs.declared.types.TabletType.TheVariants.{Primary, Replica}
-use Rattle.mt_names.specs.declared.types.TypeSet.{TypeSet}
-use Rattle.mt_names.specs.Shards.{Cuts}
 use Rattle.mt_names.specs.Types.{all_types}
-use Rattle.mt_model.specs.declared.rows.Op.TheVariants.{Insert, Append}
-use Rattle.mt_plain.specs.Events.{write, read, add_keyspace, add_table, create, advance, begin_switch, begin_reverse, step, undo, show, forward, back, done, row, advanced, refused, memory, no_keyspace, no_workflow, denied, copying, not_level, no_shard, sharded_source}
-use Rattle.mt_plain.specs.Output.{Told, told, told_request, told_then, watchers_of}
+use Rattle.mt_model.specs.declared.rows.Op.TheVariants.{Insert}
+use Rattle.mt_plain.specs.Events.{write, read, add_keyspace, add_table, create, advance, begin_switch, begin_reverse, step, undo, forward, back, done, row, advanced, refused, memory, no_keyspace, no_workflow, denied, copying, not_level, no_shard, sharded_source}
+use Rattle.mt_plain.specs.Output.{output, watchers_of}
 use Rattle.mt_plain.specs.Plain.{Plain, opening}
-use Rattle.mt_plain.specs.Script.{Request, event, write_through, read_through, drive, read_line}
+use Rattle.mt_plain.specs.Script.{drive}
 use Rattle.mt_plain.specs.Serve.{IsWritable}
 use Rattle.mt_rows.specs.Answers.{commerce, customer, corder, value}
-use Rattle.mt_rows.specs.Workflows.{Gets, after_events, begun, live, made, mv, plain}
+use Rattle.mt_rows.specs.Workflows.{Gets, after_events, begun, live, made, mv}
 
--- what a line tells in a state
-abbrev pub Tells : Type 0
-Tells = Plain → Told
-
--- as it is written
-abbrev pub said : (text : List ℕ) → List Tells
-said text = map (λ line p. told read_line p line) (lines text)
-
--- by what it asks for
-abbrev pub asked : Request → Tells
-asked request p = told_request p (Ok request)
-
--- the output of some lines from a state on
-abbrev pub output_of : Plain → List Tells → List ℕ
-output_of p [] = []
-output_of p (line ∷ lines) = told_then p (line p) (λ q. output_of q lines)
-
-abbrev pub both_watched : List Request → List ℕ
-both_watched requests = output_of (opening (watchers_of (commerce ∷ customer ∷ []))) (map asked requests)
-
--- ---- requests
-
-abbrev pub insert : ℕ → List ℕ → Request
-insert key bytes = write_through (plain corder) (Insert key (value bytes))
-
-abbrev pub append : ℕ → List ℕ → Request
-append key bytes = write_through (plain corder) (Append key (value bytes))
-
-abbrev pub get : ℕ → Request
-get key = read_through (plain corder) key Primary
-
-abbrev pub insert_at_target : ℕ → List ℕ → Request
-insert_at_target key bytes = event (write customer corder (Insert key (value bytes)))
-
-abbrev pub feed : (shard at : ℕ) → Request
-feed shard at = event (advance mv forward shard at 100)
-
-abbrev pub step_at : ℕ → Request
-step_at n = event (step mv n)
-
-abbrev pub undo_at : ℕ → Request
-undo_at n = event (undo mv n)
-
-abbrev pub primary_alone : TypeSet
-primary_alone = record { primary = true; replica = false; rdonly = false }
-
--- the first keys of the second half, and of the second quarter
+-- the first key of the second half
 abbrev pub half : ℕ
 half = 9223372036854775808
 
-abbrev pub quarter : ℕ
-quarter = 4611686018427387904
-
--- two keyspaces, of which the second has these shards, and a table in the first
-abbrev pub keyspaces : Cuts → List Request
-keyspaces cuts = event (add_keyspace commerce []) ∷ event (add_keyspace customer cuts) ∷ event (add_table commerce corder) ∷ []
-
--- with a row in each half, and a workflow
-abbrev pub two_rows : List Request
-two_rows = keyspaces (codes "80" ∷ []) ++ insert 1 (codes "a") ∷ insert half (codes "b") ∷ event (made mv) ∷ []
-
 -- ---- moves
+
+-- with watchers of both keyspaces
+abbrev pub both_watched : (script : List ℕ) → List ℕ
+both_watched script = output (watchers_of (commerce ∷ customer ∷ [])) script
 
 -- a table moves to two shards and back; a write to the second one comes back by its own stream
 abbrev pub a_table_moves_to_two_shards_and_back : Type 0
-a_table_moves_to_two_shards_and_back =
-    both_watched (two_rows ++ feed 2 2 ∷ feed 0 2 ∷ feed 1 2 ∷ drive mv all_types false ∷ append half (codes "x") ∷ get half
-    ∷ drive mv all_types true ∷ get half ∷ event (show mv) ∷ [])
-    ≡ codes "ok\nok\nok\nok\nok\nok\nrefused F32 NoShard\nevents 0 rows 1\nevents 0 rows 1\nok\nok\nrow bx\nok\nrow bx\nmv commerce customer corder switched - way none forward -80 running 3 copied 80- running 3 copied back none\n"
+a_table_moves_to_two_shards_and_back = both_watched (codes "keyspace commerce\nkeyspace customer -80,80-\ntable commerce corder\ninsert corder 1 a\ninsert corder 9223372036854775808 b\ncreate mv commerce customer corder\nadvance mv forward 2 100\nadvance mv forward/-80 2 100\nadvance mv forward/80- 2 100\nswitch mv all\nappend corder 9223372036854775808 x\nget corder 9223372036854775808\nreverse mv all\nget corder 9223372036854775808\nshow mv\n") ≡ codes "ok\nok\nok\nok\nok\nok\nrefused F32 NoShard\nevents 0 rows 1\nevents 0 rows 1\nok\nok\nrow bx\nok\nrow bx\nmv commerce customer corder switched - way none forward -80 running 3 copied 80- running 3 copied back none\n"
 
 abbrev pub a_sharded_source_is_refused : Type 0
-a_sharded_source_is_refused =
-    both_watched (keyspaces (codes "80" ∷ []) ++ event (add_table customer (codes "t")) ∷ event (create mv customer commerce (codes "t" ∷ [])) ∷ [])
-    ≡ codes "ok\nok\nok\nok\nrefused F33 ShardedSource\n"
+a_sharded_source_is_refused = both_watched (codes "keyspace a -80,90-\nkeyspace b 80-40\nkeyspace commerce\nkeyspace c -80,80-\ntable c t\ncreate w c commerce t\ndump\n") ≡ codes "refused N10 NotCovering\nrefused N9 BadRange\nok\nok\nok\nrefused F33 ShardedSource\n{\"denied\":[],\"keyspaces\":[{\"name\":\"c\",\"shards\":[\"-80\",\"80-\"],\"tables\":[\"t\"]},{\"name\":\"commerce\",\"shards\":[\"-\"],\"tables\":[]}],\"rules\":[],\"version\":2}\n"
+
+abbrev pub a_sharded_keyspace_is_dumped : Type 0
+a_sharded_keyspace_is_dumped = both_watched (codes "keyspace b\nkeyspace a -80,80-\ntable b t\ndump\n") ≡ codes "ok\nok\nok\n{\"denied\":[],\"keyspaces\":[{\"name\":\"a\",\"shards\":[\"-80\",\"80-\"],\"tables\":[]},{\"name\":\"b\",\"shards\":[\"-\"],\"tables\":[\"t\"]}],\"rules\":[],\"version\":2}\n"
 
 -- the same move by its steps: the refresh of the target has a step for each shard, behind the journal on the way there, and before it on
 -- the way back, where an undo takes back the refresh of the last shard alone
-abbrev pub begin_of_steps : List Request
-begin_of_steps = two_rows ++ feed 0 2 ∷ feed 1 2 ∷ event (begin_switch mv all_types) ∷ step_at 0 ∷ step_at 1 ∷ step_at 2 ∷ step_at 3 ∷ step_at 4
-    ∷ step_at 5 ∷ event (show mv) ∷ step_at 6 ∷ step_at 7 ∷ []
+abbrev pub begin_of_steps : List ℕ
+begin_of_steps = codes "keyspace commerce\nkeyspace customer -80,80-\ntable commerce corder\ninsert corder 1 a\ninsert corder 9223372036854775808 b\ncreate mv commerce customer corder\nadvance mv forward/-80 2 100\nadvance mv forward/80- 2 100\nbegin-switch mv all\nstep mv 0\nstep mv 1\nstep mv 2\nstep mv 3\nstep mv 4\nstep mv 5\nshow mv\nstep mv 6\nstep mv 7\n"
 
 abbrev pub begin_of_outputs : List ℕ
 begin_of_outputs = codes "ok\nok\nok\nok\nok\nok\nevents 0 rows 1\nevents 0 rows 1\nok\nok\nok\nok\nok\nok\nok\nmv commerce customer corder switched - way forward primary,replica,rdonly 6 forward -80 stopped 2 copied 80- stopped 2 copied back -80 stopped 1 80- stopped 1\nok\nok\n"
 
 abbrev pub one_shard_opens_before_the_other : Type 0
 one_shard_opens_before_the_other =
-    both_watched (begin_of_steps ++ step_at 8 ∷ insert_at_target 2 (codes "c") ∷ insert_at_target (half + 1) (codes "d") ∷ step_at 9
-    ∷ insert_at_target (half + 1) (codes "d") ∷ step_at 10 ∷ step_at 11 ∷ step_at 12 ∷ event (show mv) ∷ [])
+    both_watched (begin_of_steps ++ codes "step mv 8\nat customer.corder insert 2 c\nat customer.corder insert 9223372036854775809 d\nstep mv 9\nat customer.corder insert 9223372036854775809 d\nstep mv 10\nstep mv 11\nstep mv 12\nshow mv\n")
     ≡ begin_of_outputs ++ codes "ok\nok\nrefused F3 Denied\nok\nok\nok\nok\nok\nmv commerce customer corder switched primary,replica,rdonly way none forward -80 frozen 2 copied 80- frozen 2 copied back -80 running 1 80- running 1\n"
 
 abbrev pub an_undo_of_a_refresh_opens_one_shard : Type 0
 an_undo_of_a_refresh_opens_one_shard =
-    both_watched (begin_of_steps ++ step_at 8 ∷ step_at 9 ∷ step_at 10 ∷ step_at 11 ∷ step_at 12 ∷ event (begin_reverse mv primary_alone) ∷ step_at 0
-    ∷ step_at 1 ∷ step_at 2 ∷ undo_at 3 ∷ insert_at_target 2 (codes "c") ∷ insert_at_target (half + 1) (codes "d") ∷ undo_at 2
-    ∷ insert_at_target 2 (codes "c") ∷ event (show mv) ∷ [])
+    both_watched (begin_of_steps ++ codes "step mv 8\nstep mv 9\nstep mv 10\nstep mv 11\nstep mv 12\nbegin-reverse mv primary\nstep mv 0\nstep mv 1\nstep mv 2\nundo mv 3\nat customer.corder insert 2 c\nat customer.corder insert 9223372036854775809 d\nundo mv 2\nat customer.corder insert 2 c\nshow mv\n")
     ≡ begin_of_outputs ++ codes "ok\nok\nok\nok\nok\nok\nok\nok\nok\nok\nrefused F3 Denied\nok\nok\nok\nmv commerce customer corder switched primary,replica,rdonly way back primary 1 undoing forward -80 frozen 2 copied 80- frozen 2 copied back -80 running 1 80- running 1\n"
 
 -- a write to one shard leaves the others level; the drive feeds all
 abbrev pub a_drive_feeds_each_shard : Type 0
 a_drive_feeds_each_shard =
-    both_watched (keyspaces (codes "40" ∷ codes "80" ∷ []) ++ event (made mv) ∷ feed 0 0 ∷ feed 1 0 ∷ drive mv all_types false ∷ feed 2 0
-    ∷ insert quarter (codes "m") ∷ insert (quarter - 1) (codes "l") ∷ drive mv all_types false
-    ∷ event (read customer corder quarter Primary) ∷ event (show mv) ∷ [])
+    both_watched (codes "keyspace commerce\nkeyspace customer -40,40-80,80-\ntable commerce corder\ncreate mv commerce customer corder\nadvance mv forward/-40 0 100\nadvance mv forward/40-80 0 100\nswitch mv all\nadvance mv forward/80- 0 100\ninsert corder 4611686018427387904 m\ninsert corder 4611686018427387903 l\nswitch mv all\nat customer.corder get 4611686018427387904\nshow mv\n")
     ≡ codes "ok\nok\nok\nok\nevents 0 rows 0\nevents 0 rows 0\nrefused F17 Copying\nevents 0 rows 0\nok\nok\nok\nrow m\nmv commerce customer corder switched primary,replica,rdonly way none forward -40 frozen 2 copied 40-80 frozen 2 copied 80- frozen 2 copied back -40 running 1 40-80 running 1 80- running 0\n"
 
 -- ---- refusals

@@ -12,7 +12,7 @@ abbrev pub whole_073 : Type 0
 whole_073 = output (watchers_of (codes "k3" ∷ [])) (codes "keyspace k2\nkeyspace k3\ntable k1 primary\ntable k1 t\ntable k1 all\ntable k1 k1\ndump\nat k2.t insert 4611686018427387904 a\ncreate mv k3 k1 t\nrules\ndelete t 1\ninsert TTTTTTTTTTTTTTTTTTTTTTTTTTTTTTTTTTTTTTTTTTTTTTTTTTTTTTTTTTTTTTTTT 18446744073709551615 y\nadvance mv x 0 100\nbegin-reverse mv primary\nundo mv 8\nrules\nat k1.all insert 9223372036854775807 d\ninsert t 0 z\nbegin-reverse mv all\nstep mv 11\nundo mv 4\nundo mv 0\nrules\ndump\nshow mv\nget primary 1\nget primary@replica 1\nget primary@rdonly 1\nget t 1\nget t@replica 1\nget t@rdonly 1\nget all 1\nget all@replica 1\nget all@rdonly 1\nget k1 1\nget k1@replica 1\nget k1@rdonly 1\n") ≡ codes "ok\nok\nrefused F1 NoKeyspace\nrefused F1 NoKeyspace\nrefused F1 NoKeyspace\nrefused F1 NoKeyspace\n{\"denied\":[],\"keyspaces\":[{\"name\":\"k2\",\"shards\":[\"-\"],\"tables\":[]},{\"name\":\"k3\",\"shards\":[\"-\"],\"tables\":[]}],\"rules\":[],\"version\":2}\nrefused F2 NoTable\nrefused F1 NoKeyspace\n{\"rules\":[]}\nrefused T2 NoTable\nrefused N2 TooLong\nrefused X1 BadLine\nrefused F7 NoWorkflow\nrefused F7 NoWorkflow\n{\"rules\":[]}\nrefused F1 NoKeyspace\nrefused T2 NoTable\nrefused F7 NoWorkflow\nrefused F7 NoWorkflow\nrefused F7 NoWorkflow\nrefused F7 NoWorkflow\n{\"rules\":[]}\n{\"denied\":[],\"keyspaces\":[{\"name\":\"k2\",\"shards\":[\"-\"],\"tables\":[]},{\"name\":\"k3\",\"shards\":[\"-\"],\"tables\":[]}],\"rules\":[],\"version\":2}\nrefused F7 NoWorkflow\nrefused T2 NoTable\nrefused T2 NoTable\nrefused T2 NoTable\nrefused T2 NoTable\nrefused T2 NoTable\nrefused T2 NoTable\nrefused T2 NoTable\nrefused T2 NoTable\nrefused T2 NoTable\nrefused T2 NoTable\nrefused T2 NoTable\nrefused T2 NoTable\n"
 
 abbrev pub whole_074 : Type 0
-whole_074 = output (watchers_of (codes "a" ∷ codes "a-b" ∷ codes "b" ∷ [])) (codes "keyspace a\nkeyspace a-b\nkeyspace b\ntable a t\nat a.t@primary get 3\nrule u@replica -\ncreate a a b t\nkeyspace -k x\ncomplete a\nappend t 1 vvvvvvvvvvvvvvvvvvvvvvvvvvvvvvvvvvvvvvvvvvvvvvvvvvvvvvvvvvvvvvvv\nappend t 1 x\ncreate _revers b a t\nat a.t insert 1 a\nadvance a forward 0 100\nadvance a forward 1 100\nbegin-switch a rdonly,primary\nstep a 0\nswitch a all\nrule t k1.gone\nadvance a forward 1 100\nat a.t append 2 y\nrules\ndump\nshow a\nshow reverse\nshow _revers\nat a.t@primary get 1\nat a.t@replica get 1\nat a.t@rdonly get 1\nat b.t@primary get 1\nat b.t@replica get 1\nat b.t@rdonly get 1\nget t 1\nget t@replica 1\nget t@rdonly 1\nget u 1\nget u@replica 1\nget u@rdonly 1\nget v 1\nget v@replica 1\nget v@rdonly 1\n\n") ≡ codes "ok\nok\nok\nok\nnone\nok\nok\nrefused X1 BadLine\nrefused F21 NotAllSwitched\nrefused F5 NoRow\nrefused F5 NoRow\nrefused F8 TableInWorkflow\nok\nevents 1 rows 0\nevents 0 rows 1\nok\nok\nrefused F13 UnderWay\nrefused F22 RuleOwned\nevents 0 rows 0\nrefused F5 NoRow\n{\"rules\":[{\"from_table\":\"a.t@rdonly\",\"to_tables\":[\"b.t\"]},{\"from_table\":\"a.t@replica\",\"to_tables\":[\"a.t\"]},{\"from_table\":\"b.t\",\"to_tables\":[\"a.t\"]},{\"from_table\":\"b.t@rdonly\",\"to_tables\":[\"b.t\"]},{\"from_table\":\"b.t@replica\",\"to_tables\":[\"a.t\"]},{\"from_table\":\"t\",\"to_tables\":[\"a.t\"]},{\"from_table\":\"t@rdonly\",\"to_tables\":[\"b.t\"]},{\"from_table\":\"t@replica\",\"to_tables\":[\"a.t\"]}]}\n{\"denied\":[\"b.t\"],\"keyspaces\":[{\"name\":\"a\",\"shards\":[\"-\"],\"tables\":[\"t\"]},{\"name\":\"a-b\",\"shards\":[\"-\"],\"tables\":[]},{\"name\":\"b\",\"shards\":[\"-\"],\"tables\":[\"t\"]}],\"rules\":[{\"from_table\":\"a.t@rdonly\",\"to_tables\":[\"b.t\"]},{\"from_table\":\"a.t@replica\",\"to_tables\":[\"a.t\"]},{\"from_table\":\"b.t\",\"to_tables\":[\"a.t\"]},{\"from_table\":\"b.t@rdonly\",\"to_tables\":[\"b.t\"]},{\"from_table\":\"b.t@replica\",\"to_tables\":[\"a.t\"]},{\"from_table\":\"t\",\"to_tables\":[\"a.t\"]},{\"from_table\":\"t@rdonly\",\"to_tables\":[\"b.t\"]},{\"from_table\":\"t@replica\",\"to_tables\":[\"a.t\"]}],\"version\":2}\na a b t switched - way forward primary,rdonly 1 forward running 1 copied back none\nrefused F7 NoWorkflow\nrefused F7 NoWorkflow\nrow a\nrow a\nrow a\nrefused F3 Denied\nrow a\nrow a\nrow a\nrow a\nrow a\nrefused T2 NoTable\nrefused T2 NoTable\nrefused T2 NoTable\nrefused T2 NoTable\nrefused T2 NoTable\nrefused T2 NoTable\n"
+whole_074 = output (watchers_of (codes "a" ∷ codes "a-b" ∷ codes "b" ∷ [])) (codes "keyspace a\nkeyspace a-b\nkeyspace b\ntable a t\nat a.t@primary get 3\nrule u@replica -\ncreate a a b t\nkeyspace -k x\ncomplete a\nappend t 1 vvvvvvvvvvvvvvvvvvvvvvvvvvvvvvvvvvvvvvvvvvvvvvvvvvvvvvvvvvvvvvvv\nappend t 1 x\ncreate _revers b a t\nat a.t insert 1 a\nadvance a forward 0 100\nadvance a forward 1 100\nbegin-switch a rdonly,primary\nstep a 0\nswitch a all\nrule t k1.gone\nadvance a forward 1 100\nat a.t append 2 y\nrules\ndump\nshow a\nshow reverse\nshow _revers\nat a.t@primary get 1\nat a.t@replica get 1\nat a.t@rdonly get 1\nat b.t@primary get 1\nat b.t@replica get 1\nat b.t@rdonly get 1\nget t 1\nget t@replica 1\nget t@rdonly 1\nget u 1\nget u@replica 1\nget u@rdonly 1\nget v 1\nget v@replica 1\nget v@rdonly 1\n\n") ≡ codes "ok\nok\nok\nok\nnone\nok\nok\nrefused N3 BadByte\nrefused F21 NotAllSwitched\nrefused F5 NoRow\nrefused F5 NoRow\nrefused F8 TableInWorkflow\nok\nevents 1 rows 0\nevents 0 rows 1\nok\nok\nrefused F13 UnderWay\nrefused F22 RuleOwned\nevents 0 rows 0\nrefused F5 NoRow\n{\"rules\":[{\"from_table\":\"a.t@rdonly\",\"to_tables\":[\"b.t\"]},{\"from_table\":\"a.t@replica\",\"to_tables\":[\"a.t\"]},{\"from_table\":\"b.t\",\"to_tables\":[\"a.t\"]},{\"from_table\":\"b.t@rdonly\",\"to_tables\":[\"b.t\"]},{\"from_table\":\"b.t@replica\",\"to_tables\":[\"a.t\"]},{\"from_table\":\"t\",\"to_tables\":[\"a.t\"]},{\"from_table\":\"t@rdonly\",\"to_tables\":[\"b.t\"]},{\"from_table\":\"t@replica\",\"to_tables\":[\"a.t\"]}]}\n{\"denied\":[\"b.t\"],\"keyspaces\":[{\"name\":\"a\",\"shards\":[\"-\"],\"tables\":[\"t\"]},{\"name\":\"a-b\",\"shards\":[\"-\"],\"tables\":[]},{\"name\":\"b\",\"shards\":[\"-\"],\"tables\":[\"t\"]}],\"rules\":[{\"from_table\":\"a.t@rdonly\",\"to_tables\":[\"b.t\"]},{\"from_table\":\"a.t@replica\",\"to_tables\":[\"a.t\"]},{\"from_table\":\"b.t\",\"to_tables\":[\"a.t\"]},{\"from_table\":\"b.t@rdonly\",\"to_tables\":[\"b.t\"]},{\"from_table\":\"b.t@replica\",\"to_tables\":[\"a.t\"]},{\"from_table\":\"t\",\"to_tables\":[\"a.t\"]},{\"from_table\":\"t@rdonly\",\"to_tables\":[\"b.t\"]},{\"from_table\":\"t@replica\",\"to_tables\":[\"a.t\"]}],\"version\":2}\na a b t switched - way forward primary,rdonly 1 forward running 1 copied back none\nrefused F7 NoWorkflow\nrefused F7 NoWorkflow\nrow a\nrow a\nrow a\nrefused F3 Denied\nrow a\nrow a\nrow a\nrow a\nrow a\nrefused T2 NoTable\nrefused T2 NoTable\nrefused T2 NoTable\nrefused T2 NoTable\nrefused T2 NoTable\nrefused T2 NoTable\n"
 
 abbrev pub whole_075 : Type 0
 whole_075 = output (watchers_of (codes "A" ∷ codes "a" ∷ codes "a_" ∷ codes "a-" ∷ [])) (codes "keyspace A\nkeyspace a\nkeyspace a_\nkeyspace a-\nbegin-switch a replica,primary\nrule corder -\nundo _revers 6\nat A.corder insert 0001 y\nbegin-reverse a all,primary\nstep _revers 0\nbegin-switch _revers rdonly\ntable a- corder\nat a-.corder@primary append 2 y\nat a-.corder@rdonly get 0\ncreate a a- a corder\nundo a 1\ncreate reverse a_ A corder\nadvance a forward 0 100\nbegin-switch a all\nadvance a back 0 100\ncreate a a_ a- corder\nat a-.corder get 2\nrules\ndump\nshow a\nshow reverse\nshow _revers\nat a.corder@primary get 1\nat a.corder@replica get 1\nat a.corder@rdonly get 1\nat a-.corder@primary get 1\nat a-.corder@replica get 1\nat a-.corder@rdonly get 1\nget corder 1\nget corder@replica 1\nget corder@rdonly 1\n") ≡ codes "ok\nok\nok\nok\nrefused F7 NoWorkflow\nok\nrefused F7 NoWorkflow\nrefused F2 NoTable\nrefused N6 BadType\nrefused F7 NoWorkflow\nrefused F7 NoWorkflow\nok\nrefused F5 NoRow\nnone\nok\nrefused F14 NothingUnderWay\nrefused F2 NoTable\nevents 0 rows 0\nok\nrefused F26 Stopped\nrefused F6 WorkflowExists\nnone\n{\"rules\":[{\"from_table\":\"a-.corder@rdonly\",\"to_tables\":[\"a-.corder\"]},{\"from_table\":\"a-.corder@replica\",\"to_tables\":[\"a-.corder\"]},{\"from_table\":\"a.corder\",\"to_tables\":[\"a-.corder\"]},{\"from_table\":\"a.corder@rdonly\",\"to_tables\":[\"a-.corder\"]},{\"from_table\":\"a.corder@replica\",\"to_tables\":[\"a-.corder\"]},{\"from_table\":\"corder\",\"to_tables\":[\"a-.corder\"]},{\"from_table\":\"corder@rdonly\",\"to_tables\":[\"a-.corder\"]},{\"from_table\":\"corder@replica\",\"to_tables\":[\"a-.corder\"]}]}\n{\"denied\":[\"a.corder\"],\"keyspaces\":[{\"name\":\"A\",\"shards\":[\"-\"],\"tables\":[]},{\"name\":\"a\",\"shards\":[\"-\"],\"tables\":[\"corder\"]},{\"name\":\"a-\",\"shards\":[\"-\"],\"tables\":[\"corder\"]},{\"name\":\"a_\",\"shards\":[\"-\"],\"tables\":[]}],\"rules\":[{\"from_table\":\"a-.corder@rdonly\",\"to_tables\":[\"a-.corder\"]},{\"from_table\":\"a-.corder@replica\",\"to_tables\":[\"a-.corder\"]},{\"from_table\":\"a.corder\",\"to_tables\":[\"a-.corder\"]},{\"from_table\":\"a.corder@rdonly\",\"to_tables\":[\"a-.corder\"]},{\"from_table\":\"a.corder@replica\",\"to_tables\":[\"a-.corder\"]},{\"from_table\":\"corder\",\"to_tables\":[\"a-.corder\"]},{\"from_table\":\"corder@rdonly\",\"to_tables\":[\"a-.corder\"]},{\"from_table\":\"corder@replica\",\"to_tables\":[\"a-.corder\"]}],\"version\":2}\na a- a corder switched - way forward primary,replica,rdonly 0 forward running 0 copied back none\nrefused F7 NoWorkflow\nrefused F7 NoWorkflow\nrefused F3 Denied\nnone\nnone\nnone\nnone\nnone\nnone\nnone\nnone\n"

@@ -3,7 +3,7 @@ use Rattle.std.specs.Prelude.{◌≡◌, codes, [], ◌∷◌}
 use Rattle.mt_plain.specs.Output.{output, watchers_of}
 
 abbrev pub whole_041 : Type 0
-whole_041 = output (watchers_of (codes "a" ∷ codes "a-b" ∷ codes "b" ∷ [])) (codes "keyspace a\nkeyspace a-b\ntable a corder\nQeyspce a\ntable a corder\ncreate reverse a a-b corder\nadvance reverse forward 0 100\nrule corder -\ninsert corder 3 x\na corde\nupdate corder@primary 9223372036854775808 x\nat a.corder@primary update 0001 b\nadvance -m forward/x 0 1\ndump\nrules\ninsert a-b.corder 3 #\nadvance\t -m\t forward/x\t 0\t forward/x\t 1\nrule corder a.corder\nrules\ndump\nshow a\nshow reverse\nshow _revers\nat a.corder@primary get 1\nat a.corder@primary get 3\nat a.corder@replica get 1\nat a.corder@replica get 3\nat a.corder@rdonly get 1\nat a.corder@rdonly get 3\nat a-b.corder@primary get 1\nat a-b.corder@primary get 3\nat a-b.corder@replica get 1\nat a-b.corder@replica get 3\nat a-b.corder@rdonly get 1\nat a-b.corder@rdonly get 3\nget corder 1\nget corder@replica 3\nget corder@rdonly 3\n") ≡ codes "ok\nok\nok\nrefused X1 BadLine\nrefused F30 Exists\nok\nevents 0 rows 0\nrefused F22 RuleOwned\nok\nrefused X1 BadLine\nrefused F5 NoRow\nrefused F5 NoRow\nrefused X1 BadLine\n{\"denied\":[\"a-b.corder\"],\"keyspaces\":[{\"name\":\"a\",\"shards\":[\"-\"],\"tables\":[\"corder\"]},{\"name\":\"a-b\",\"shards\":[\"-\"],\"tables\":[\"corder\"]}],\"rules\":[{\"from_table\":\"a-b.corder\",\"to_tables\":[\"a.corder\"]},{\"from_table\":\"a-b.corder@rdonly\",\"to_tables\":[\"a.corder\"]},{\"from_table\":\"a-b.corder@replica\",\"to_tables\":[\"a.corder\"]},{\"from_table\":\"a.corder@rdonly\",\"to_tables\":[\"a.corder\"]},{\"from_table\":\"a.corder@replica\",\"to_tables\":[\"a.corder\"]},{\"from_table\":\"corder\",\"to_tables\":[\"a.corder\"]},{\"from_table\":\"corder@rdonly\",\"to_tables\":[\"a.corder\"]},{\"from_table\":\"corder@replica\",\"to_tables\":[\"a.corder\"]}],\"version\":2}\n{\"rules\":[{\"from_table\":\"a-b.corder\",\"to_tables\":[\"a.corder\"]},{\"from_table\":\"a-b.corder@rdonly\",\"to_tables\":[\"a.corder\"]},{\"from_table\":\"a-b.corder@replica\",\"to_tables\":[\"a.corder\"]},{\"from_table\":\"a.corder@rdonly\",\"to_tables\":[\"a.corder\"]},{\"from_table\":\"a.corder@replica\",\"to_tables\":[\"a.corder\"]},{\"from_table\":\"corder\",\"to_tables\":[\"a.corder\"]},{\"from_table\":\"corder@rdonly\",\"to_tables\":[\"a.corder\"]},{\"from_table\":\"corder@replica\",\"to_tables\":[\"a.corder\"]}]}\nrefused F4 RowExists\nrefused X1 BadLine\nrefused F22 RuleOwned\n{\"rules\":[{\"from_table\":\"a-b.corder\",\"to_tables\":[\"a.corder\"]},{\"from_table\":\"a-b.corder@rdonly\",\"to_tables\":[\"a.corder\"]},{\"from_table\":\"a-b.corder@replica\",\"to_tables\":[\"a.corder\"]},{\"from_table\":\"a.corder@rdonly\",\"to_tables\":[\"a.corder\"]},{\"from_table\":\"a.corder@replica\",\"to_tables\":[\"a.corder\"]},{\"from_table\":\"corder\",\"to_tables\":[\"a.corder\"]},{\"from_table\":\"corder@rdonly\",\"to_tables\":[\"a.corder\"]},{\"from_table\":\"corder@replica\",\"to_tables\":[\"a.corder\"]}]}\n{\"denied\":[\"a-b.corder\"],\"keyspaces\":[{\"name\":\"a\",\"shards\":[\"-\"],\"tables\":[\"corder\"]},{\"name\":\"a-b\",\"shards\":[\"-\"],\"tables\":[\"corder\"]}],\"rules\":[{\"from_table\":\"a-b.corder\",\"to_tables\":[\"a.corder\"]},{\"from_table\":\"a-b.corder@rdonly\",\"to_tables\":[\"a.corder\"]},{\"from_table\":\"a-b.corder@replica\",\"to_tables\":[\"a.corder\"]},{\"from_table\":\"a.corder@rdonly\",\"to_tables\":[\"a.corder\"]},{\"from_table\":\"a.corder@replica\",\"to_tables\":[\"a.corder\"]},{\"from_table\":\"corder\",\"to_tables\":[\"a.corder\"]},{\"from_table\":\"corder@rdonly\",\"to_tables\":[\"a.corder\"]},{\"from_table\":\"corder@replica\",\"to_tables\":[\"a.corder\"]}],\"version\":2}\nrefused F7 NoWorkflow\nreverse a a-b corder switched - way none forward running 0 copied back none\nrefused F7 NoWorkflow\nnone\nrow x\nnone\nrow x\nnone\nrow x\nrefused F3 Denied\nrefused F3 Denied\nnone\nnone\nnone\nnone\nnone\nrow x\nrow x\n"
+whole_041 = output (watchers_of (codes "a" ∷ codes "a-b" ∷ codes "b" ∷ [])) (codes "keyspace a\nkeyspace a-b\ntable a corder\nQeyspce a\ntable a corder\ncreate reverse a a-b corder\nadvance reverse forward 0 100\nrule corder -\ninsert corder 3 x\na corde\nupdate corder@primary 9223372036854775808 x\nat a.corder@primary update 0001 b\nadvance -m forward/x 0 1\ndump\nrules\ninsert a-b.corder 3 #\nadvance\t -m\t forward/x\t 0\t forward/x\t 1\nrule corder a.corder\nrules\ndump\nshow a\nshow reverse\nshow _revers\nat a.corder@primary get 1\nat a.corder@primary get 3\nat a.corder@replica get 1\nat a.corder@replica get 3\nat a.corder@rdonly get 1\nat a.corder@rdonly get 3\nat a-b.corder@primary get 1\nat a-b.corder@primary get 3\nat a-b.corder@replica get 1\nat a-b.corder@replica get 3\nat a-b.corder@rdonly get 1\nat a-b.corder@rdonly get 3\nget corder 1\nget corder@replica 3\nget corder@rdonly 3\n") ≡ codes "ok\nok\nok\nrefused X1 BadLine\nrefused F30 Exists\nok\nevents 0 rows 0\nrefused F22 RuleOwned\nok\nrefused X1 BadLine\nrefused F5 NoRow\nrefused F5 NoRow\nrefused N3 BadByte\n{\"denied\":[\"a-b.corder\"],\"keyspaces\":[{\"name\":\"a\",\"shards\":[\"-\"],\"tables\":[\"corder\"]},{\"name\":\"a-b\",\"shards\":[\"-\"],\"tables\":[\"corder\"]}],\"rules\":[{\"from_table\":\"a-b.corder\",\"to_tables\":[\"a.corder\"]},{\"from_table\":\"a-b.corder@rdonly\",\"to_tables\":[\"a.corder\"]},{\"from_table\":\"a-b.corder@replica\",\"to_tables\":[\"a.corder\"]},{\"from_table\":\"a.corder@rdonly\",\"to_tables\":[\"a.corder\"]},{\"from_table\":\"a.corder@replica\",\"to_tables\":[\"a.corder\"]},{\"from_table\":\"corder\",\"to_tables\":[\"a.corder\"]},{\"from_table\":\"corder@rdonly\",\"to_tables\":[\"a.corder\"]},{\"from_table\":\"corder@replica\",\"to_tables\":[\"a.corder\"]}],\"version\":2}\n{\"rules\":[{\"from_table\":\"a-b.corder\",\"to_tables\":[\"a.corder\"]},{\"from_table\":\"a-b.corder@rdonly\",\"to_tables\":[\"a.corder\"]},{\"from_table\":\"a-b.corder@replica\",\"to_tables\":[\"a.corder\"]},{\"from_table\":\"a.corder@rdonly\",\"to_tables\":[\"a.corder\"]},{\"from_table\":\"a.corder@replica\",\"to_tables\":[\"a.corder\"]},{\"from_table\":\"corder\",\"to_tables\":[\"a.corder\"]},{\"from_table\":\"corder@rdonly\",\"to_tables\":[\"a.corder\"]},{\"from_table\":\"corder@replica\",\"to_tables\":[\"a.corder\"]}]}\nrefused F4 RowExists\nrefused X1 BadLine\nrefused F22 RuleOwned\n{\"rules\":[{\"from_table\":\"a-b.corder\",\"to_tables\":[\"a.corder\"]},{\"from_table\":\"a-b.corder@rdonly\",\"to_tables\":[\"a.corder\"]},{\"from_table\":\"a-b.corder@replica\",\"to_tables\":[\"a.corder\"]},{\"from_table\":\"a.corder@rdonly\",\"to_tables\":[\"a.corder\"]},{\"from_table\":\"a.corder@replica\",\"to_tables\":[\"a.corder\"]},{\"from_table\":\"corder\",\"to_tables\":[\"a.corder\"]},{\"from_table\":\"corder@rdonly\",\"to_tables\":[\"a.corder\"]},{\"from_table\":\"corder@replica\",\"to_tables\":[\"a.corder\"]}]}\n{\"denied\":[\"a-b.corder\"],\"keyspaces\":[{\"name\":\"a\",\"shards\":[\"-\"],\"tables\":[\"corder\"]},{\"name\":\"a-b\",\"shards\":[\"-\"],\"tables\":[\"corder\"]}],\"rules\":[{\"from_table\":\"a-b.corder\",\"to_tables\":[\"a.corder\"]},{\"from_table\":\"a-b.corder@rdonly\",\"to_tables\":[\"a.corder\"]},{\"from_table\":\"a-b.corder@replica\",\"to_tables\":[\"a.corder\"]},{\"from_table\":\"a.corder@rdonly\",\"to_tables\":[\"a.corder\"]},{\"from_table\":\"a.corder@replica\",\"to_tables\":[\"a.corder\"]},{\"from_table\":\"corder\",\"to_tables\":[\"a.corder\"]},{\"from_table\":\"corder@rdonly\",\"to_tables\":[\"a.corder\"]},{\"from_table\":\"corder@replica\",\"to_tables\":[\"a.corder\"]}],\"version\":2}\nrefused F7 NoWorkflow\nreverse a a-b corder switched - way none forward running 0 copied back none\nrefused F7 NoWorkflow\nnone\nrow x\nnone\nrow x\nnone\nrow x\nrefused F3 Denied\nrefused F3 Denied\nnone\nnone\nnone\nnone\nnone\nrow x\nrow x\n"
 
 abbrev pub whole_042 : Type 0
 whole_042 = output (watchers_of (codes "A" ∷ codes "a" ∷ codes "a_" ∷ codes "a-" ∷ [])) (codes "keyspace A\nkeyspace a\nkeyspace a_\nkeyspace a-\ntable a- t$\ninsert A.t-1 1 c\ncreate _revers a- a t$\nadvance _revers forward 0 2\nbegin-switch _revers primary\nstep _revers 0\nstep _revers 1\ninsert A.t 0 vvvvvvvvvvvvvvvvvvvvvvvvvvvvvvvvvvvvvvvv\nstep _revers 2\nat a.t$ insert 0 q\nstep _revers 3\nat a-.t$ get 18446744073709551615\nstep _revers 4\nstep _revers 5\nstep _revers 6\ninsert t$ 2 a\ncancel _revers\ndump\nat a-.t$ get 1\nadvance _revers back 0 2\nstep _revers 7\nbegin-switch _revers all\ntable a t$\nat a.t$ insert 1 y\nrules\ndump\nshow a\nshow reverse\nshow _revers\nat a.t$@primary get 1\nat a.t$@replica get 1\nat a.t$@rdonly get 1\nat a-.t$@primary get 1\nat a-.t$@replica get 1\nat a-.t$@rdonly get 1\nget t 1\nget t@replica 1\nget t@rdonly 1\nget t$ 1\nget t$@replica 1\nget t$@rdonly 1\nget t-1 1\nget t-1@replica 1\nget t-1@rdonly 1\n") ≡ codes "ok\nok\nok\nok\nok\nrefused F2 NoTable\nok\nevents 0 rows 0\nok\nok\nok\nrefused F2 NoTable\nok\nrefused F3 Denied\nok\nrefused F3 Denied\nok\nok\nok\nrefused F3 Denied\nrefused F13 UnderWay\n{\"denied\":[\"a-.t$\"],\"keyspaces\":[{\"name\":\"A\",\"shards\":[\"-\"],\"tables\":[]},{\"name\":\"a\",\"shards\":[\"-\"],\"tables\":[\"t$\"]},{\"name\":\"a-\",\"shards\":[\"-\"],\"tables\":[\"t$\"]},{\"name\":\"a_\",\"shards\":[\"-\"],\"tables\":[]}],\"rules\":[{\"from_table\":\"a-.t$@rdonly\",\"to_tables\":[\"a-.t$\"]},{\"from_table\":\"a-.t$@replica\",\"to_tables\":[\"a-.t$\"]},{\"from_table\":\"a.t$\",\"to_tables\":[\"a-.t$\"]},{\"from_table\":\"a.t$@rdonly\",\"to_tables\":[\"a-.t$\"]},{\"from_table\":\"a.t$@replica\",\"to_tables\":[\"a-.t$\"]},{\"from_table\":\"t$\",\"to_tables\":[\"a-.t$\"]},{\"from_table\":\"t$@rdonly\",\"to_tables\":[\"a-.t$\"]},{\"from_table\":\"t$@replica\",\"to_tables\":[\"a-.t$\"]}],\"version\":2}\nrefused F3 Denied\nrefused F26 Stopped\nok\nrefused F13 UnderWay\nrefused F30 Exists\nok\n{\"rules\":[{\"from_table\":\"a-.t$@rdonly\",\"to_tables\":[\"a-.t$\"]},{\"from_table\":\"a-.t$@replica\",\"to_tables\":[\"a-.t$\"]},{\"from_table\":\"a.t$\",\"to_tables\":[\"a-.t$\"]},{\"from_table\":\"a.t$@rdonly\",\"to_tables\":[\"a-.t$\"]},{\"from_table\":\"a.t$@replica\",\"to_tables\":[\"a-.t$\"]},{\"from_table\":\"t$\",\"to_tables\":[\"a-.t$\"]},{\"from_table\":\"t$@rdonly\",\"to_tables\":[\"a-.t$\"]},{\"from_table\":\"t$@replica\",\"to_tables\":[\"a-.t$\"]}]}\n{\"denied\":[\"a-.t$\"],\"keyspaces\":[{\"name\":\"A\",\"shards\":[\"-\"],\"tables\":[]},{\"name\":\"a\",\"shards\":[\"-\"],\"tables\":[\"t$\"]},{\"name\":\"a-\",\"shards\":[\"-\"],\"tables\":[\"t$\"]},{\"name\":\"a_\",\"shards\":[\"-\"],\"tables\":[]}],\"rules\":[{\"from_table\":\"a-.t$@rdonly\",\"to_tables\":[\"a-.t$\"]},{\"from_table\":\"a-.t$@replica\",\"to_tables\":[\"a-.t$\"]},{\"from_table\":\"a.t$\",\"to_tables\":[\"a-.t$\"]},{\"from_table\":\"a.t$@rdonly\",\"to_tables\":[\"a-.t$\"]},{\"from_table\":\"a.t$@replica\",\"to_tables\":[\"a-.t$\"]},{\"from_table\":\"t$\",\"to_tables\":[\"a-.t$\"]},{\"from_table\":\"t$@rdonly\",\"to_tables\":[\"a-.t$\"]},{\"from_table\":\"t$@replica\",\"to_tables\":[\"a-.t$\"]}],\"version\":2}\nrefused F7 NoWorkflow\nrefused F7 NoWorkflow\n_revers a- a t$ switched primary way forward primary 8 forward stopped 0 copied back stopped 0\nrow y\nrow y\nrow y\nrefused F3 Denied\nnone\nnone\nrefused T2 NoTable\nrefused T2 NoTable\nrefused T2 NoTable\nrefused F3 Denied\nnone\nnone\nrefused T2 NoTable\nrefused T2 NoTable\nrefused T2 NoTable\n"

@@ -6,10 +6,10 @@ abbrev pub whole_031 : Type 0
 whole_031 = output (watchers_of (codes "A" ∷ codes "a" ∷ codes "a_" ∷ codes "a-" ∷ [])) (codes "keyspace A\nkeyspace a\nkeyspace a_\nkeyspace a-\nappend corder 0 b\nundo a 0\nget a-.corder@primary 2\nat a-.corder append 2 y\nbegin-switch a primary\nstep _revers 11\nadvance reverse forward 0 100\nbegin-switch a all\nstep _reverse 2\nbegin-reverse _revers primary\nstep _revers 2\nbegin-switch a replica\nstep m.1 8\nbegin-switch a all\nstep a 7\nat a_.corder get 2\nreverse a rdonly\ncreate _revers a_ A corder\nappend a-.corder 2 a\nbegin-reverse _revers rdonly\nat a.corder insert 4611686018427387904 d\nbegin-switch -w primary,rdonly\nstep a 3\ndump\nadvance _revers forward 0 100\nundo $ 10\nat a_.corder append 2 a\nrule a-.corder@replica a.b.c\nbegin-switch reverse all\nbegin-reverse _reverse all\nstep reverse 2\ncreate a a_ a- corder\nat a_.corder get 18446744073709551615\nadvance _revers x 0 100\nbegin-switch _revers replica\nbegin-reverse _revers replica,rdonly\nstep _revers 1\nbegin-reverse _revers all\nstep a 7\nbegin-switch a all\nshow _revers\nadvance _revers back 0 100\nbegin-reverse reverse primary,replica\nstep a 0\nbegin-switch _revers all\nstep a 0\nat a.corder insert 0001 c\nundo _revers 1\ndump\nbegin-reverse a all\nadvance a back 0 100\nat a_.corder delete 00000000000000000001\nat a_.corder@master get 0\nadvance a back 0 100\nbegin-switch reverse all\nstep a 1\nadvance a forward 0 100\nbegin-reverse a rdonly\nstep reverse 3\nupdate corder 1 b\nappend corder 0001 z\nat a.corder append 1 c\nbegin-switch a primary\nstep a 9\nshow a\nbegin-switch _revers replica\nstep reverse 10\nadvance _revers forward 0 100\ncancel a\nadvance _revers forward 0 100\nadvance _revers forward 0 100\nbegin-reverse reverse all\nstep a 0\nrules\ndump\nshow a\nshow reverse\nshow _revers\nget corder 1\nget corder@replica 1\nget corder@rdonly 1\n") ≡ codes "ok\nok\nok\nok\nrefused T2 NoTable\nrefused F7 NoWorkflow\nrefused F2 NoTable\nrefused F2 NoTable\nrefused F7 NoWorkflow\nrefused F7 NoWorkflow\nrefused F7 NoWorkflow\nrefused F7 NoWorkflow\nrefused N5 ReservedSuffix\nrefused F7 NoWorkflow\nrefused F7 NoWorkflow\nrefused F7 NoWorkflow\nrefused N3 BadByte\nrefused F7 NoWorkflow\nrefused F7 NoWorkflow\nrefused F2 NoTable\nrefused F7 NoWorkflow\nrefused F2 NoTable\nrefused F2 NoTable\nrefused F7 NoWorkflow\nrefused F2 NoTable\nrefused N3 BadByte\nrefused F7 NoWorkflow\n{\"denied\":[],\"keyspaces\":[{\"name\":\"A\",\"shards\":[\"-\"],\"tables\":[]},{\"name\":\"a\",\"shards\":[\"-\"],\"tables\":[]},{\"name\":\"a-\",\"shards\":[\"-\"],\"tables\":[]},{\"name\":\"a_\",\"shards\":[\"-\"],\"tables\":[]}],\"rules\":[],\"version\":2}\nrefused F7 NoWorkflow\nrefused N3 BadByte\nrefused F2 NoTable\nrefused N3 BadByte\nrefused F7 NoWorkflow\nrefused N5 ReservedSuffix\nrefused F7 NoWorkflow\nrefused F2 NoTable\nrefused F2 NoTable\nrefused X1 BadLine\nrefused F7 NoWorkflow\nrefused F7 NoWorkflow\nrefused F7 NoWorkflow\nrefused F7 NoWorkflow\nrefused F7 NoWorkflow\nrefused F7 NoWorkflow\nrefused F7 NoWorkflow\nrefused F7 NoWorkflow\nrefused F7 NoWorkflow\nrefused F7 NoWorkflow\nrefused F7 NoWorkflow\nrefused F7 NoWorkflow\nrefused F2 NoTable\nrefused F7 NoWorkflow\n{\"denied\":[],\"keyspaces\":[{\"name\":\"A\",\"shards\":[\"-\"],\"tables\":[]},{\"name\":\"a\",\"shards\":[\"-\"],\"tables\":[]},{\"name\":\"a-\",\"shards\":[\"-\"],\"tables\":[]},{\"name\":\"a_\",\"shards\":[\"-\"],\"tables\":[]}],\"rules\":[],\"version\":2}\nrefused F7 NoWorkflow\nrefused F7 NoWorkflow\nrefused F2 NoTable\nrefused N6 BadType\nrefused F7 NoWorkflow\nrefused F7 NoWorkflow\nrefused F7 NoWorkflow\nrefused F7 NoWorkflow\nrefused F7 NoWorkflow\nrefused F7 NoWorkflow\nrefused T2 NoTable\nrefused T2 NoTable\nrefused F2 NoTable\nrefused F7 NoWorkflow\nrefused F7 NoWorkflow\nrefused F7 NoWorkflow\nrefused F7 NoWorkflow\nrefused F7 NoWorkflow\nrefused F7 NoWorkflow\nrefused F7 NoWorkflow\nrefused F7 NoWorkflow\nrefused F7 NoWorkflow\nrefused F7 NoWorkflow\nrefused F7 NoWorkflow\n{\"rules\":[]}\n{\"denied\":[],\"keyspaces\":[{\"name\":\"A\",\"shards\":[\"-\"],\"tables\":[]},{\"name\":\"a\",\"shards\":[\"-\"],\"tables\":[]},{\"name\":\"a-\",\"shards\":[\"-\"],\"tables\":[]},{\"name\":\"a_\",\"shards\":[\"-\"],\"tables\":[]}],\"rules\":[],\"version\":2}\nrefused F7 NoWorkflow\nrefused F7 NoWorkflow\nrefused F7 NoWorkflow\nrefused T2 NoTable\nrefused T2 NoTable\nrefused T2 NoTable\n"
 
 abbrev pub whole_032 : Type 0
-whole_032 = output (watchers_of (codes "A" ∷ codes "a" ∷ codes "a_" ∷ codes "a-" ∷ codes "A" ∷ [])) (codes "keyspace A\nkeyspace a\nkeyspace a_\nkeyspace a-\ntable a- t\ntable A t$\ntable a_ t$\ntable A t-1\nat A.t-1 update 2 x\nat a_.t-1 insert 2 b\nat a-.t@primary append 9223372036854775807 d\nat A.t-1@primary append 3 x\nat a-.t insert 2 c\nat A.t$ append 2 b\nat a_.t$ append 18374686479671623680 a\nupdate A.t.u 2 d\ncreate _revers a- a_ t\nappend t 1 x\nadvance _revers forward 1 100\nrule t$ a_.t-1\ncancel _revers\ncreate reverse a- A t\nrules\ncreate _revers a_ a- t$\nrule t$ -\ncreate _revers a_ a- t$\nrules\nundo reverse 0\nadvance _revers forward 1 100\nswitch _revers -\nrule t$ -\nrule A.t$@primary -\nrule t@replica -\nadvance reverse forward/- 1 100\nadvance reverse forward 1 2\nbegin-switch reverse rdonly,primary,replica\nstep reverse 0\nstep reverse 1\nat a-.t@primary get 1\nstep reverse 2\nupdate t 18446744073709551615 x\nrules\ndump\nshow a\nshow reverse\nshow _revers\nat A.t@primary get 1\nat A.t@primary get 2\nat A.t@replica get 1\nat A.t@replica get 2\nat A.t@rdonly get 1\nat A.t@rdonly get 2\nat A.t$@primary get 1\nat A.t$@primary get 2\nat A.t$@replica get 1\nat A.t$@replica get 2\nat A.t$@rdonly get 1\nat A.t$@rdonly get 2\nat A.t-1@primary get 1\nat A.t-1@primary get 2\nat A.t-1@replica get 1\nat A.t-1@replica get 2\nat A.t-1@rdonly get 1\nat A.t-1@rdonly get 2\nat a-.t@primary get 1\nat a-.t@primary get 2\nat a-.t@replica get 1\nat a-.t@replica get 2\nat a-.t@rdonly get 1\nat a-.t@rdonly get 2\nat a-.t$@primary get 1\nat a-.t$@primary get 2\nat a-.t$@replica get 1\nat a-.t$@replica get 2\nat a-.t$@rdonly get 1\nat a-.t$@rdonly get 2\nat a_.t$@primary get 1\nat a_.t$@primary get 2\nat a_.t$@replica get 1\nat a_.t$@replica get 2\nat a_.t$@rdonly get 1\nat a_.t$@rdonly get 2\nget t 2\nget t@replica 2\nget t@rdonly 1\nget t$ 2\nget t$@replica 2\nget t$@rdonly 2\nget t-1 2\nget t-1@replica 2\nget t-1@rdonly 1\n") ≡ codes "ok\nok\nok\nok\nok\nok\nok\nok\nrefused F5 NoRow\nrefused F2 NoTable\nrefused F5 NoRow\nrefused F5 NoRow\nok\nrefused F5 NoRow\nrefused F5 NoRow\nrefused N3 BadByte\nok\nrefused F5 NoRow\nevents 0 rows 1\nok\nok\nok\n{\"rules\":[{\"from_table\":\"A.t\",\"to_tables\":[\"a-.t\"]},{\"from_table\":\"A.t@rdonly\",\"to_tables\":[\"a-.t\"]},{\"from_table\":\"A.t@replica\",\"to_tables\":[\"a-.t\"]},{\"from_table\":\"a-.t@rdonly\",\"to_tables\":[\"a-.t\"]},{\"from_table\":\"a-.t@replica\",\"to_tables\":[\"a-.t\"]},{\"from_table\":\"t\",\"to_tables\":[\"a-.t\"]},{\"from_table\":\"t$\",\"to_tables\":[\"a_.t-1\"]},{\"from_table\":\"t@rdonly\",\"to_tables\":[\"a-.t\"]},{\"from_table\":\"t@replica\",\"to_tables\":[\"a-.t\"]}]}\nrefused F9 RuleConflict\nok\nok\n{\"rules\":[{\"from_table\":\"A.t\",\"to_tables\":[\"a-.t\"]},{\"from_table\":\"A.t@rdonly\",\"to_tables\":[\"a-.t\"]},{\"from_table\":\"A.t@replica\",\"to_tables\":[\"a-.t\"]},{\"from_table\":\"a-.t$\",\"to_tables\":[\"a_.t$\"]},{\"from_table\":\"a-.t$@rdonly\",\"to_tables\":[\"a_.t$\"]},{\"from_table\":\"a-.t$@replica\",\"to_tables\":[\"a_.t$\"]},{\"from_table\":\"a-.t@rdonly\",\"to_tables\":[\"a-.t\"]},{\"from_table\":\"a-.t@replica\",\"to_tables\":[\"a-.t\"]},{\"from_table\":\"a_.t$@rdonly\",\"to_tables\":[\"a_.t$\"]},{\"from_table\":\"a_.t$@replica\",\"to_tables\":[\"a_.t$\"]},{\"from_table\":\"t\",\"to_tables\":[\"a-.t\"]},{\"from_table\":\"t$\",\"to_tables\":[\"a_.t$\"]},{\"from_table\":\"t$@rdonly\",\"to_tables\":[\"a_.t$\"]},{\"from_table\":\"t$@replica\",\"to_tables\":[\"a_.t$\"]},{\"from_table\":\"t@rdonly\",\"to_tables\":[\"a-.t\"]},{\"from_table\":\"t@replica\",\"to_tables\":[\"a-.t\"]}]}\nrefused F14 NothingUnderWay\nevents 0 rows 0\nrefused F15 NothingToSwitch\nrefused F22 RuleOwned\nok\nrefused F22 RuleOwned\nrefused X1 BadLine\nevents 0 rows 1\nok\nok\nok\nnone\nok\nrefused F3 Denied\n{\"rules\":[{\"from_table\":\"A.t\",\"to_tables\":[\"a-.t\"]},{\"from_table\":\"A.t@rdonly\",\"to_tables\":[\"A.t\"]},{\"from_table\":\"A.t@replica\",\"to_tables\":[\"A.t\"]},{\"from_table\":\"a-.t$\",\"to_tables\":[\"a_.t$\"]},{\"from_table\":\"a-.t$@rdonly\",\"to_tables\":[\"a_.t$\"]},{\"from_table\":\"a-.t$@replica\",\"to_tables\":[\"a_.t$\"]},{\"from_table\":\"a-.t@rdonly\",\"to_tables\":[\"A.t\"]},{\"from_table\":\"a-.t@replica\",\"to_tables\":[\"A.t\"]},{\"from_table\":\"a_.t$@rdonly\",\"to_tables\":[\"a_.t$\"]},{\"from_table\":\"a_.t$@replica\",\"to_tables\":[\"a_.t$\"]},{\"from_table\":\"t\",\"to_tables\":[\"a-.t\"]},{\"from_table\":\"t$\",\"to_tables\":[\"a_.t$\"]},{\"from_table\":\"t$@rdonly\",\"to_tables\":[\"a_.t$\"]},{\"from_table\":\"t$@replica\",\"to_tables\":[\"a_.t$\"]},{\"from_table\":\"t@rdonly\",\"to_tables\":[\"A.t\"]},{\"from_table\":\"t@replica\",\"to_tables\":[\"A.t\"]}]}\n{\"denied\":[\"A.t\",\"a-.t\",\"a-.t$\"],\"keyspaces\":[{\"name\":\"A\",\"shards\":[\"-\"],\"tables\":[\"t\",\"t$\",\"t-1\"]},{\"name\":\"a\",\"shards\":[\"-\"],\"tables\":[]},{\"name\":\"a-\",\"shards\":[\"-\"],\"tables\":[\"t\",\"t$\"]},{\"name\":\"a_\",\"shards\":[\"-\"],\"tables\":[\"t$\"]}],\"rules\":[{\"from_table\":\"A.t\",\"to_tables\":[\"a-.t\"]},{\"from_table\":\"A.t@rdonly\",\"to_tables\":[\"A.t\"]},{\"from_table\":\"A.t@replica\",\"to_tables\":[\"A.t\"]},{\"from_table\":\"a-.t$\",\"to_tables\":[\"a_.t$\"]},{\"from_table\":\"a-.t$@rdonly\",\"to_tables\":[\"a_.t$\"]},{\"from_table\":\"a-.t$@replica\",\"to_tables\":[\"a_.t$\"]},{\"from_table\":\"a-.t@rdonly\",\"to_tables\":[\"A.t\"]},{\"from_table\":\"a-.t@replica\",\"to_tables\":[\"A.t\"]},{\"from_table\":\"a_.t$@rdonly\",\"to_tables\":[\"a_.t$\"]},{\"from_table\":\"a_.t$@replica\",\"to_tables\":[\"a_.t$\"]},{\"from_table\":\"t\",\"to_tables\":[\"a-.t\"]},{\"from_table\":\"t$\",\"to_tables\":[\"a_.t$\"]},{\"from_table\":\"t$@rdonly\",\"to_tables\":[\"a_.t$\"]},{\"from_table\":\"t$@replica\",\"to_tables\":[\"a_.t$\"]},{\"from_table\":\"t@rdonly\",\"to_tables\":[\"A.t\"]},{\"from_table\":\"t@replica\",\"to_tables\":[\"A.t\"]}],\"version\":2}\nrefused F7 NoWorkflow\nreverse a- A t switched - way forward primary,replica,rdonly 3 forward running 1 copied back none\n_revers a_ a- t$ switched - way none forward running 1 copied back none\nrefused F3 Denied\nrefused F3 Denied\nnone\nrow c\nnone\nrow c\nnone\nnone\nnone\nnone\nnone\nnone\nnone\nnone\nnone\nnone\nnone\nnone\nrefused F3 Denied\nrefused F3 Denied\nnone\nrow c\nnone\nrow c\nrefused F3 Denied\nrefused F3 Denied\nnone\nnone\nnone\nnone\nnone\nnone\nnone\nnone\nnone\nnone\nrefused F3 Denied\nrow c\nnone\nnone\nnone\nnone\nnone\nnone\nnone\n"
+whole_032 = output (watchers_of (codes "A" ∷ codes "a" ∷ codes "a_" ∷ codes "a-" ∷ codes "A" ∷ [])) (codes "keyspace A\nkeyspace a\nkeyspace a_\nkeyspace a-\ntable a- t\ntable A t$\ntable a_ t$\ntable A t-1\nat A.t-1 update 2 x\nat a_.t-1 insert 2 b\nat a-.t@primary append 9223372036854775807 d\nat A.t-1@primary append 3 x\nat a-.t insert 2 c\nat A.t$ append 2 b\nat a_.t$ append 18374686479671623680 a\nupdate A.t.u 2 d\ncreate _revers a- a_ t\nappend t 1 x\nadvance _revers forward 1 100\nrule t$ a_.t-1\ncancel _revers\ncreate reverse a- A t\nrules\ncreate _revers a_ a- t$\nrule t$ -\ncreate _revers a_ a- t$\nrules\nundo reverse 0\nadvance _revers forward 1 100\nswitch _revers -\nrule t$ -\nrule A.t$@primary -\nrule t@replica -\nadvance reverse forward/- 1 100\nadvance reverse forward 1 2\nbegin-switch reverse rdonly,primary,replica\nstep reverse 0\nstep reverse 1\nat a-.t@primary get 1\nstep reverse 2\nupdate t 18446744073709551615 x\nrules\ndump\nshow a\nshow reverse\nshow _revers\nat A.t@primary get 1\nat A.t@primary get 2\nat A.t@replica get 1\nat A.t@replica get 2\nat A.t@rdonly get 1\nat A.t@rdonly get 2\nat A.t$@primary get 1\nat A.t$@primary get 2\nat A.t$@replica get 1\nat A.t$@replica get 2\nat A.t$@rdonly get 1\nat A.t$@rdonly get 2\nat A.t-1@primary get 1\nat A.t-1@primary get 2\nat A.t-1@replica get 1\nat A.t-1@replica get 2\nat A.t-1@rdonly get 1\nat A.t-1@rdonly get 2\nat a-.t@primary get 1\nat a-.t@primary get 2\nat a-.t@replica get 1\nat a-.t@replica get 2\nat a-.t@rdonly get 1\nat a-.t@rdonly get 2\nat a-.t$@primary get 1\nat a-.t$@primary get 2\nat a-.t$@replica get 1\nat a-.t$@replica get 2\nat a-.t$@rdonly get 1\nat a-.t$@rdonly get 2\nat a_.t$@primary get 1\nat a_.t$@primary get 2\nat a_.t$@replica get 1\nat a_.t$@replica get 2\nat a_.t$@rdonly get 1\nat a_.t$@rdonly get 2\nget t 2\nget t@replica 2\nget t@rdonly 1\nget t$ 2\nget t$@replica 2\nget t$@rdonly 2\nget t-1 2\nget t-1@replica 2\nget t-1@rdonly 1\n") ≡ codes "ok\nok\nok\nok\nok\nok\nok\nok\nrefused F5 NoRow\nrefused F2 NoTable\nrefused F5 NoRow\nrefused F5 NoRow\nok\nrefused F5 NoRow\nrefused F5 NoRow\nrefused N3 BadByte\nok\nrefused F5 NoRow\nevents 0 rows 1\nok\nok\nok\n{\"rules\":[{\"from_table\":\"A.t\",\"to_tables\":[\"a-.t\"]},{\"from_table\":\"A.t@rdonly\",\"to_tables\":[\"a-.t\"]},{\"from_table\":\"A.t@replica\",\"to_tables\":[\"a-.t\"]},{\"from_table\":\"a-.t@rdonly\",\"to_tables\":[\"a-.t\"]},{\"from_table\":\"a-.t@replica\",\"to_tables\":[\"a-.t\"]},{\"from_table\":\"t\",\"to_tables\":[\"a-.t\"]},{\"from_table\":\"t$\",\"to_tables\":[\"a_.t-1\"]},{\"from_table\":\"t@rdonly\",\"to_tables\":[\"a-.t\"]},{\"from_table\":\"t@replica\",\"to_tables\":[\"a-.t\"]}]}\nrefused F9 RuleConflict\nok\nok\n{\"rules\":[{\"from_table\":\"A.t\",\"to_tables\":[\"a-.t\"]},{\"from_table\":\"A.t@rdonly\",\"to_tables\":[\"a-.t\"]},{\"from_table\":\"A.t@replica\",\"to_tables\":[\"a-.t\"]},{\"from_table\":\"a-.t$\",\"to_tables\":[\"a_.t$\"]},{\"from_table\":\"a-.t$@rdonly\",\"to_tables\":[\"a_.t$\"]},{\"from_table\":\"a-.t$@replica\",\"to_tables\":[\"a_.t$\"]},{\"from_table\":\"a-.t@rdonly\",\"to_tables\":[\"a-.t\"]},{\"from_table\":\"a-.t@replica\",\"to_tables\":[\"a-.t\"]},{\"from_table\":\"a_.t$@rdonly\",\"to_tables\":[\"a_.t$\"]},{\"from_table\":\"a_.t$@replica\",\"to_tables\":[\"a_.t$\"]},{\"from_table\":\"t\",\"to_tables\":[\"a-.t\"]},{\"from_table\":\"t$\",\"to_tables\":[\"a_.t$\"]},{\"from_table\":\"t$@rdonly\",\"to_tables\":[\"a_.t$\"]},{\"from_table\":\"t$@replica\",\"to_tables\":[\"a_.t$\"]},{\"from_table\":\"t@rdonly\",\"to_tables\":[\"a-.t\"]},{\"from_table\":\"t@replica\",\"to_tables\":[\"a-.t\"]}]}\nrefused F14 NothingUnderWay\nevents 0 rows 0\nrefused F15 NothingToSwitch\nrefused F22 RuleOwned\nok\nrefused F22 RuleOwned\nevents 0 rows 1\nevents 0 rows 0\nok\nok\nok\nnone\nok\nrefused F3 Denied\n{\"rules\":[{\"from_table\":\"A.t\",\"to_tables\":[\"a-.t\"]},{\"from_table\":\"A.t@rdonly\",\"to_tables\":[\"A.t\"]},{\"from_table\":\"A.t@replica\",\"to_tables\":[\"A.t\"]},{\"from_table\":\"a-.t$\",\"to_tables\":[\"a_.t$\"]},{\"from_table\":\"a-.t$@rdonly\",\"to_tables\":[\"a_.t$\"]},{\"from_table\":\"a-.t$@replica\",\"to_tables\":[\"a_.t$\"]},{\"from_table\":\"a-.t@rdonly\",\"to_tables\":[\"A.t\"]},{\"from_table\":\"a-.t@replica\",\"to_tables\":[\"A.t\"]},{\"from_table\":\"a_.t$@rdonly\",\"to_tables\":[\"a_.t$\"]},{\"from_table\":\"a_.t$@replica\",\"to_tables\":[\"a_.t$\"]},{\"from_table\":\"t\",\"to_tables\":[\"a-.t\"]},{\"from_table\":\"t$\",\"to_tables\":[\"a_.t$\"]},{\"from_table\":\"t$@rdonly\",\"to_tables\":[\"a_.t$\"]},{\"from_table\":\"t$@replica\",\"to_tables\":[\"a_.t$\"]},{\"from_table\":\"t@rdonly\",\"to_tables\":[\"A.t\"]},{\"from_table\":\"t@replica\",\"to_tables\":[\"A.t\"]}]}\n{\"denied\":[\"A.t\",\"a-.t\",\"a-.t$\"],\"keyspaces\":[{\"name\":\"A\",\"shards\":[\"-\"],\"tables\":[\"t\",\"t$\",\"t-1\"]},{\"name\":\"a\",\"shards\":[\"-\"],\"tables\":[]},{\"name\":\"a-\",\"shards\":[\"-\"],\"tables\":[\"t\",\"t$\"]},{\"name\":\"a_\",\"shards\":[\"-\"],\"tables\":[\"t$\"]}],\"rules\":[{\"from_table\":\"A.t\",\"to_tables\":[\"a-.t\"]},{\"from_table\":\"A.t@rdonly\",\"to_tables\":[\"A.t\"]},{\"from_table\":\"A.t@replica\",\"to_tables\":[\"A.t\"]},{\"from_table\":\"a-.t$\",\"to_tables\":[\"a_.t$\"]},{\"from_table\":\"a-.t$@rdonly\",\"to_tables\":[\"a_.t$\"]},{\"from_table\":\"a-.t$@replica\",\"to_tables\":[\"a_.t$\"]},{\"from_table\":\"a-.t@rdonly\",\"to_tables\":[\"A.t\"]},{\"from_table\":\"a-.t@replica\",\"to_tables\":[\"A.t\"]},{\"from_table\":\"a_.t$@rdonly\",\"to_tables\":[\"a_.t$\"]},{\"from_table\":\"a_.t$@replica\",\"to_tables\":[\"a_.t$\"]},{\"from_table\":\"t\",\"to_tables\":[\"a-.t\"]},{\"from_table\":\"t$\",\"to_tables\":[\"a_.t$\"]},{\"from_table\":\"t$@rdonly\",\"to_tables\":[\"a_.t$\"]},{\"from_table\":\"t$@replica\",\"to_tables\":[\"a_.t$\"]},{\"from_table\":\"t@rdonly\",\"to_tables\":[\"A.t\"]},{\"from_table\":\"t@replica\",\"to_tables\":[\"A.t\"]}],\"version\":2}\nrefused F7 NoWorkflow\nreverse a- A t switched - way forward primary,replica,rdonly 3 forward running 1 copied back none\n_revers a_ a- t$ switched - way none forward running 1 copied back none\nrefused F3 Denied\nrefused F3 Denied\nnone\nrow c\nnone\nrow c\nnone\nnone\nnone\nnone\nnone\nnone\nnone\nnone\nnone\nnone\nnone\nnone\nrefused F3 Denied\nrefused F3 Denied\nnone\nrow c\nnone\nrow c\nrefused F3 Denied\nrefused F3 Denied\nnone\nnone\nnone\nnone\nnone\nnone\nnone\nnone\nnone\nnone\nrefused F3 Denied\nrow c\nnone\nnone\nnone\nnone\nnone\nnone\nnone\n"
 
 abbrev pub whole_033 : Type 0
-whole_033 = output (watchers_of (codes "A" ∷ codes "a" ∷ codes "a_" ∷ codes "a-" ∷ codes "A" ∷ [])) (codes "keyspace A\nkeyspace a\nkeyspace a_\nkeyspace a-\ntable a- t\nappend a-.t@primary 3 y\nappend t@primary 18374686479671623680 x\ndelete t 2\nkeyspace a_\nkeyspace k1 - -\nat a-.t get 1\ncreate -m -k -k -t\ncreate m2 a- A t\nadvance m2 forward/- 0 100\nat a-.t@primary delete 0\ninsert t 1 vvvvvvvvvvvvvvvvvvvvvvvvvvvvvvvvvvvvvvvvvvvvvvvvvvvvvvvvvvvvvvvvv\ndump\ntable a- t.u\nappend t 72057594037927935 x\nadvance m2 forward 0 100\nbegin-switch m2 replica,primary,rdonly\nstep m2 0\nat a-.t delete 18446744073709551615\nat a-.t@replica get 2\nstep m2 1\nadvance m2 forward 0 1\nstep m2 6\ntable a t\nundo m2 2\nundo m2 1\nrules x\nadvance m2 forward 6 2\nreverse m -\nrule a@x b\ncomplete m2\nkeyspace a_\nrules\ndump\nshow m1\nshow m2\nshow m3\nat A.t@primary get 1\nat A.t@replica get 1\nat A.t@rdonly get 1\nat a.t@primary get 1\nat a.t@replica get 1\nat a.t@rdonly get 1\nat a-.t@primary get 1\nat a-.t@replica get 1\nat a-.t@rdonly get 1\nget t 1\nget t@replica 1\nget t@rdonly 1\nget t$ 1\nget t$@replica 1\nget t$@rdonly 1\nget t-1 1\nget t-1@replica 1\nget t-1@rdonly 1\nat a-.t@primary get 3\nrule a-.t-1 -\nswitch m2 all\ncreate m3 A a t\ninsert t 0 c\nswitch m2 all\nkeyspace A\nget\ntable a t-1\ncreate m_reverse -k k t\nm2 all\nrules\ndump\nshow m1\nshow m2\nshow m3\nat A.t@primary get 0\nat A.t@primary get 1\nat A.t@replica get 0\nat A.t@replica get 1\nat A.t@rdonly get 0\nat A.t@rdonly get 1\nat a.t@primary get 0\nat a.t@primary get 1\nat a.t@replica get 0\nat a.t@replica get 1\nat a.t@rdonly get 0\nat a.t@rdonly get 1\nat a.t-1@primary get 0\nat a.t-1@primary get 1\nat a.t-1@replica get 0\nat a.t-1@replica get 1\nat a.t-1@rdonly get 0\nat a.t-1@rdonly get 1\nat a-.t@primary get 0\nat a-.t@primary get 1\nat a-.t@replica get 0\nat a-.t@replica get 1\nat a-.t@rdonly get 0\nat a-.t@rdonly get 1\nget t 1\nget t@replica 0\nget t@rdonly 0\nget t$ 0\nget t$@replica 1\nget t$@rdonly 0\nget t-1 1\nget t-1@replica 1\nget t-1@rdonly 0\n") ≡ codes "ok\nok\nok\nok\nok\nrefused F5 NoRow\nrefused F5 NoRow\nrefused F5 NoRow\nrefused F30 Exists\nrefused X1 BadLine\nnone\nrefused N3 BadByte\nok\nrefused X1 BadLine\nrefused F5 NoRow\nrefused X1 BadLine\n{\"denied\":[\"A.t\"],\"keyspaces\":[{\"name\":\"A\",\"shards\":[\"-\"],\"tables\":[\"t\"]},{\"name\":\"a\",\"shards\":[\"-\"],\"tables\":[]},{\"name\":\"a-\",\"shards\":[\"-\"],\"tables\":[\"t\"]},{\"name\":\"a_\",\"shards\":[\"-\"],\"tables\":[]}],\"rules\":[{\"from_table\":\"A.t\",\"to_tables\":[\"a-.t\"]},{\"from_table\":\"A.t@rdonly\",\"to_tables\":[\"a-.t\"]},{\"from_table\":\"A.t@replica\",\"to_tables\":[\"a-.t\"]},{\"from_table\":\"a-.t@rdonly\",\"to_tables\":[\"a-.t\"]},{\"from_table\":\"a-.t@replica\",\"to_tables\":[\"a-.t\"]},{\"from_table\":\"t\",\"to_tables\":[\"a-.t\"]},{\"from_table\":\"t@rdonly\",\"to_tables\":[\"a-.t\"]},{\"from_table\":\"t@replica\",\"to_tables\":[\"a-.t\"]}],\"version\":2}\nrefused N3 BadByte\nrefused F5 NoRow\nevents 0 rows 0\nok\nok\nrefused F5 NoRow\nnone\nok\nevents 0 rows 0\nrefused F25 Stale\nok\nok\nok\nrefused X1 BadLine\nrefused F25 Stale\nrefused F7 NoWorkflow\nrefused N6 BadType\nrefused F21 NotAllSwitched\nrefused F30 Exists\n{\"rules\":[{\"from_table\":\"A.t\",\"to_tables\":[\"a-.t\"]},{\"from_table\":\"A.t@rdonly\",\"to_tables\":[\"a-.t\"]},{\"from_table\":\"A.t@replica\",\"to_tables\":[\"a-.t\"]},{\"from_table\":\"a-.t@rdonly\",\"to_tables\":[\"a-.t\"]},{\"from_table\":\"a-.t@replica\",\"to_tables\":[\"a-.t\"]},{\"from_table\":\"t\",\"to_tables\":[\"a-.t\"]},{\"from_table\":\"t@rdonly\",\"to_tables\":[\"a-.t\"]},{\"from_table\":\"t@replica\",\"to_tables\":[\"a-.t\"]}]}\n{\"denied\":[\"A.t\"],\"keyspaces\":[{\"name\":\"A\",\"shards\":[\"-\"],\"tables\":[\"t\"]},{\"name\":\"a\",\"shards\":[\"-\"],\"tables\":[\"t\"]},{\"name\":\"a-\",\"shards\":[\"-\"],\"tables\":[\"t\"]},{\"name\":\"a_\",\"shards\":[\"-\"],\"tables\":[]}],\"rules\":[{\"from_table\":\"A.t\",\"to_tables\":[\"a-.t\"]},{\"from_table\":\"A.t@rdonly\",\"to_tables\":[\"a-.t\"]},{\"from_table\":\"A.t@replica\",\"to_tables\":[\"a-.t\"]},{\"from_table\":\"a-.t@rdonly\",\"to_tables\":[\"a-.t\"]},{\"from_table\":\"a-.t@replica\",\"to_tables\":[\"a-.t\"]},{\"from_table\":\"t\",\"to_tables\":[\"a-.t\"]},{\"from_table\":\"t@rdonly\",\"to_tables\":[\"a-.t\"]},{\"from_table\":\"t@replica\",\"to_tables\":[\"a-.t\"]}],\"version\":2}\nrefused F7 NoWorkflow\nm2 a- A t switched - way none forward running 0 copied back none\nrefused F7 NoWorkflow\nrefused F3 Denied\nnone\nnone\nnone\nnone\nnone\nnone\nnone\nnone\nnone\nnone\nnone\nrefused T2 NoTable\nrefused T2 NoTable\nrefused T2 NoTable\nrefused T2 NoTable\nrefused T2 NoTable\nrefused T2 NoTable\nnone\nok\nok\nrefused F8 TableInWorkflow\nok\nrefused F15 NothingToSwitch\nrefused F30 Exists\nrefused X1 BadLine\nok\nrefused N5 ReservedSuffix\nrefused X1 BadLine\n{\"rules\":[{\"from_table\":\"A.t@rdonly\",\"to_tables\":[\"A.t\"]},{\"from_table\":\"A.t@replica\",\"to_tables\":[\"A.t\"]},{\"from_table\":\"a-.t\",\"to_tables\":[\"A.t\"]},{\"from_table\":\"a-.t@rdonly\",\"to_tables\":[\"A.t\"]},{\"from_table\":\"a-.t@replica\",\"to_tables\":[\"A.t\"]},{\"from_table\":\"t\",\"to_tables\":[\"A.t\"]},{\"from_table\":\"t@rdonly\",\"to_tables\":[\"A.t\"]},{\"from_table\":\"t@replica\",\"to_tables\":[\"A.t\"]}]}\n{\"denied\":[\"a-.t\"],\"keyspaces\":[{\"name\":\"A\",\"shards\":[\"-\"],\"tables\":[\"t\"]},{\"name\":\"a\",\"shards\":[\"-\"],\"tables\":[\"t\",\"t-1\"]},{\"name\":\"a-\",\"shards\":[\"-\"],\"tables\":[\"t\"]},{\"name\":\"a_\",\"shards\":[\"-\"],\"tables\":[]}],\"rules\":[{\"from_table\":\"A.t@rdonly\",\"to_tables\":[\"A.t\"]},{\"from_table\":\"A.t@replica\",\"to_tables\":[\"A.t\"]},{\"from_table\":\"a-.t\",\"to_tables\":[\"A.t\"]},{\"from_table\":\"a-.t@rdonly\",\"to_tables\":[\"A.t\"]},{\"from_table\":\"a-.t@replica\",\"to_tables\":[\"A.t\"]},{\"from_table\":\"t\",\"to_tables\":[\"A.t\"]},{\"from_table\":\"t@rdonly\",\"to_tables\":[\"A.t\"]},{\"from_table\":\"t@replica\",\"to_tables\":[\"A.t\"]}],\"version\":2}\nrefused F7 NoWorkflow\nm2 a- A t switched primary,replica,rdonly way none forward frozen 0 copied back running 0\nrefused F7 NoWorkflow\nrow c\nnone\nrow c\nnone\nrow c\nnone\nnone\nnone\nnone\nnone\nnone\nnone\nnone\nnone\nnone\nnone\nnone\nnone\nrefused F3 Denied\nrefused F3 Denied\nnone\nnone\nnone\nnone\nnone\nrow c\nrow c\nrefused T2 NoTable\nrefused T2 NoTable\nrefused T2 NoTable\nnone\nnone\nnone\n"
+whole_033 = output (watchers_of (codes "A" ∷ codes "a" ∷ codes "a_" ∷ codes "a-" ∷ codes "A" ∷ [])) (codes "keyspace A\nkeyspace a\nkeyspace a_\nkeyspace a-\ntable a- t\nappend a-.t@primary 3 y\nappend t@primary 18374686479671623680 x\ndelete t 2\nkeyspace a_\nkeyspace k1 - -\nat a-.t get 1\ncreate -m -k -k -t\ncreate m2 a- A t\nadvance m2 forward/- 0 100\nat a-.t@primary delete 0\ninsert t 1 vvvvvvvvvvvvvvvvvvvvvvvvvvvvvvvvvvvvvvvvvvvvvvvvvvvvvvvvvvvvvvvvv\ndump\ntable a- t.u\nappend t 72057594037927935 x\nadvance m2 forward 0 100\nbegin-switch m2 replica,primary,rdonly\nstep m2 0\nat a-.t delete 18446744073709551615\nat a-.t@replica get 2\nstep m2 1\nadvance m2 forward 0 1\nstep m2 6\ntable a t\nundo m2 2\nundo m2 1\nrules x\nadvance m2 forward 6 2\nreverse m -\nrule a@x b\ncomplete m2\nkeyspace a_\nrules\ndump\nshow m1\nshow m2\nshow m3\nat A.t@primary get 1\nat A.t@replica get 1\nat A.t@rdonly get 1\nat a.t@primary get 1\nat a.t@replica get 1\nat a.t@rdonly get 1\nat a-.t@primary get 1\nat a-.t@replica get 1\nat a-.t@rdonly get 1\nget t 1\nget t@replica 1\nget t@rdonly 1\nget t$ 1\nget t$@replica 1\nget t$@rdonly 1\nget t-1 1\nget t-1@replica 1\nget t-1@rdonly 1\nat a-.t@primary get 3\nrule a-.t-1 -\nswitch m2 all\ncreate m3 A a t\ninsert t 0 c\nswitch m2 all\nkeyspace A\nget\ntable a t-1\ncreate m_reverse -k k t\nm2 all\nrules\ndump\nshow m1\nshow m2\nshow m3\nat A.t@primary get 0\nat A.t@primary get 1\nat A.t@replica get 0\nat A.t@replica get 1\nat A.t@rdonly get 0\nat A.t@rdonly get 1\nat a.t@primary get 0\nat a.t@primary get 1\nat a.t@replica get 0\nat a.t@replica get 1\nat a.t@rdonly get 0\nat a.t@rdonly get 1\nat a.t-1@primary get 0\nat a.t-1@primary get 1\nat a.t-1@replica get 0\nat a.t-1@replica get 1\nat a.t-1@rdonly get 0\nat a.t-1@rdonly get 1\nat a-.t@primary get 0\nat a-.t@primary get 1\nat a-.t@replica get 0\nat a-.t@replica get 1\nat a-.t@rdonly get 0\nat a-.t@rdonly get 1\nget t 1\nget t@replica 0\nget t@rdonly 0\nget t$ 0\nget t$@replica 1\nget t$@rdonly 0\nget t-1 1\nget t-1@replica 1\nget t-1@rdonly 0\n") ≡ codes "ok\nok\nok\nok\nok\nrefused F5 NoRow\nrefused F5 NoRow\nrefused F5 NoRow\nrefused F30 Exists\nrefused X1 BadLine\nnone\nrefused N3 BadByte\nok\nevents 0 rows 0\nrefused F5 NoRow\nrefused X1 BadLine\n{\"denied\":[\"A.t\"],\"keyspaces\":[{\"name\":\"A\",\"shards\":[\"-\"],\"tables\":[\"t\"]},{\"name\":\"a\",\"shards\":[\"-\"],\"tables\":[]},{\"name\":\"a-\",\"shards\":[\"-\"],\"tables\":[\"t\"]},{\"name\":\"a_\",\"shards\":[\"-\"],\"tables\":[]}],\"rules\":[{\"from_table\":\"A.t\",\"to_tables\":[\"a-.t\"]},{\"from_table\":\"A.t@rdonly\",\"to_tables\":[\"a-.t\"]},{\"from_table\":\"A.t@replica\",\"to_tables\":[\"a-.t\"]},{\"from_table\":\"a-.t@rdonly\",\"to_tables\":[\"a-.t\"]},{\"from_table\":\"a-.t@replica\",\"to_tables\":[\"a-.t\"]},{\"from_table\":\"t\",\"to_tables\":[\"a-.t\"]},{\"from_table\":\"t@rdonly\",\"to_tables\":[\"a-.t\"]},{\"from_table\":\"t@replica\",\"to_tables\":[\"a-.t\"]}],\"version\":2}\nrefused N3 BadByte\nrefused F5 NoRow\nevents 0 rows 0\nok\nok\nrefused F5 NoRow\nnone\nok\nevents 0 rows 0\nrefused F25 Stale\nok\nok\nok\nrefused X1 BadLine\nrefused F25 Stale\nrefused F7 NoWorkflow\nrefused N6 BadType\nrefused F21 NotAllSwitched\nrefused F30 Exists\n{\"rules\":[{\"from_table\":\"A.t\",\"to_tables\":[\"a-.t\"]},{\"from_table\":\"A.t@rdonly\",\"to_tables\":[\"a-.t\"]},{\"from_table\":\"A.t@replica\",\"to_tables\":[\"a-.t\"]},{\"from_table\":\"a-.t@rdonly\",\"to_tables\":[\"a-.t\"]},{\"from_table\":\"a-.t@replica\",\"to_tables\":[\"a-.t\"]},{\"from_table\":\"t\",\"to_tables\":[\"a-.t\"]},{\"from_table\":\"t@rdonly\",\"to_tables\":[\"a-.t\"]},{\"from_table\":\"t@replica\",\"to_tables\":[\"a-.t\"]}]}\n{\"denied\":[\"A.t\"],\"keyspaces\":[{\"name\":\"A\",\"shards\":[\"-\"],\"tables\":[\"t\"]},{\"name\":\"a\",\"shards\":[\"-\"],\"tables\":[\"t\"]},{\"name\":\"a-\",\"shards\":[\"-\"],\"tables\":[\"t\"]},{\"name\":\"a_\",\"shards\":[\"-\"],\"tables\":[]}],\"rules\":[{\"from_table\":\"A.t\",\"to_tables\":[\"a-.t\"]},{\"from_table\":\"A.t@rdonly\",\"to_tables\":[\"a-.t\"]},{\"from_table\":\"A.t@replica\",\"to_tables\":[\"a-.t\"]},{\"from_table\":\"a-.t@rdonly\",\"to_tables\":[\"a-.t\"]},{\"from_table\":\"a-.t@replica\",\"to_tables\":[\"a-.t\"]},{\"from_table\":\"t\",\"to_tables\":[\"a-.t\"]},{\"from_table\":\"t@rdonly\",\"to_tables\":[\"a-.t\"]},{\"from_table\":\"t@replica\",\"to_tables\":[\"a-.t\"]}],\"version\":2}\nrefused F7 NoWorkflow\nm2 a- A t switched - way none forward running 0 copied back none\nrefused F7 NoWorkflow\nrefused F3 Denied\nnone\nnone\nnone\nnone\nnone\nnone\nnone\nnone\nnone\nnone\nnone\nrefused T2 NoTable\nrefused T2 NoTable\nrefused T2 NoTable\nrefused T2 NoTable\nrefused T2 NoTable\nrefused T2 NoTable\nnone\nok\nok\nrefused F8 TableInWorkflow\nok\nrefused F15 NothingToSwitch\nrefused F30 Exists\nrefused X1 BadLine\nok\nrefused N5 ReservedSuffix\nrefused X1 BadLine\n{\"rules\":[{\"from_table\":\"A.t@rdonly\",\"to_tables\":[\"A.t\"]},{\"from_table\":\"A.t@replica\",\"to_tables\":[\"A.t\"]},{\"from_table\":\"a-.t\",\"to_tables\":[\"A.t\"]},{\"from_table\":\"a-.t@rdonly\",\"to_tables\":[\"A.t\"]},{\"from_table\":\"a-.t@replica\",\"to_tables\":[\"A.t\"]},{\"from_table\":\"t\",\"to_tables\":[\"A.t\"]},{\"from_table\":\"t@rdonly\",\"to_tables\":[\"A.t\"]},{\"from_table\":\"t@replica\",\"to_tables\":[\"A.t\"]}]}\n{\"denied\":[\"a-.t\"],\"keyspaces\":[{\"name\":\"A\",\"shards\":[\"-\"],\"tables\":[\"t\"]},{\"name\":\"a\",\"shards\":[\"-\"],\"tables\":[\"t\",\"t-1\"]},{\"name\":\"a-\",\"shards\":[\"-\"],\"tables\":[\"t\"]},{\"name\":\"a_\",\"shards\":[\"-\"],\"tables\":[]}],\"rules\":[{\"from_table\":\"A.t@rdonly\",\"to_tables\":[\"A.t\"]},{\"from_table\":\"A.t@replica\",\"to_tables\":[\"A.t\"]},{\"from_table\":\"a-.t\",\"to_tables\":[\"A.t\"]},{\"from_table\":\"a-.t@rdonly\",\"to_tables\":[\"A.t\"]},{\"from_table\":\"a-.t@replica\",\"to_tables\":[\"A.t\"]},{\"from_table\":\"t\",\"to_tables\":[\"A.t\"]},{\"from_table\":\"t@rdonly\",\"to_tables\":[\"A.t\"]},{\"from_table\":\"t@replica\",\"to_tables\":[\"A.t\"]}],\"version\":2}\nrefused F7 NoWorkflow\nm2 a- A t switched primary,replica,rdonly way none forward frozen 0 copied back running 0\nrefused F7 NoWorkflow\nrow c\nnone\nrow c\nnone\nrow c\nnone\nnone\nnone\nnone\nnone\nnone\nnone\nnone\nnone\nnone\nnone\nnone\nnone\nrefused F3 Denied\nrefused F3 Denied\nnone\nnone\nnone\nnone\nnone\nrow c\nrow c\nrefused T2 NoTable\nrefused T2 NoTable\nrefused T2 NoTable\nnone\nnone\nnone\n"
 
 abbrev pub whole_034 : Type 0
 whole_034 = output (watchers_of (codes "A" ∷ codes "a" ∷ codes "a_" ∷ codes "a-" ∷ [])) (codes "keyspace A\nkeyspace a\nkeyspace a_\nkeyspace a-\ntable A t\ntable A u\ntable A v\nat A.u@primary insert 18446744073709551615 b\ncreate m3 A a_ t,v\nadvance m3 forward 1 100\nbegin-switch m3 all\nstep m3 0\nadvance m3 back 0 100\nstep m3 1\nat A.t get 1\nstep m3 2\nadvance m3 forward 1 1\ncreate m1 A a- u\ntable a_ t\ncomplete m3\nget u@replica 0\nadvance m1 forward 1 100\nadvance m3 forward 1 0\ncancel m1\nadvance m3 forward 1 3\ninsert t 1 b\nundo m3 3\nat A.t append 0 c\nat A.u delete 18446744073709551615\ncancel m3\ntable a- v\nreverse m3 primary,rdonly,replica\nat A.t get 3\nshow m3\ncreate m1 A a_ u\nswitch m3 replica,rdonly\ndump dump\ninsert v 3 c\nswitch m3 all\nat A.v insert 2 c\nat A.t update 4611686018427387904 a\nundo m3 2\nat a_.v append 1 r\ncancel m1\nrules\ndump\nshow m1\nshow m2\nshow m3\nat A.t@primary get 1\nat A.t@primary get 2\nat A.t@primary get 3\nat A.t@replica get 1\nat A.t@replica get 2\nat A.t@replica get 3\nat A.t@rdonly get 1\nat A.t@rdonly get 2\nat A.t@rdonly get 3\nat A.u@primary get 1\nat A.u@primary get 2\nat A.u@primary get 3\nat A.u@replica get 1\nat A.u@replica get 2\nat A.u@replica get 3\nat A.u@rdonly get 1\nat A.u@rdonly get 2\nat A.u@rdonly get 3\nat A.v@primary get 1\nat A.v@primary get 2\nat A.v@primary get 3\nat A.v@replica get 1\nat A.v@replica get 2\nat A.v@replica get 3\nat A.v@rdonly get 1\nat A.v@rdonly get 2\nat A.v@rdonly get 3\nat a-.v@primary get 1\nat a-.v@primary get 2\nat a-.v@primary get 3\nat a-.v@replica get 1\nat a-.v@replica get 2\nat a-.v@replica get 3\nat a-.v@rdonly get 1\nat a-.v@rdonly get 2\nat a-.v@rdonly get 3\nat a_.t@primary get 1\nat a_.t@primary get 2\nat a_.t@primary get 3\nat a_.t@replica get 1\nat a_.t@replica get 2\nat a_.t@replica get 3\nat a_.t@rdonly get 1\nat a_.t@rdonly get 2\nat a_.t@rdonly get 3\nat a_.v@primary get 1\nat a_.v@primary get 2\nat a_.v@primary get 3\nat a_.v@replica get 1\nat a_.v@replica get 2\nat a_.v@replica get 3\nat a_.v@rdonly get 1\nat a_.v@rdonly get 2\nat a_.v@rdonly get 3\nget t 2\nget t@replica 1\nget t@rdonly 3\nget u 3\nget u@replica 2\nget u@rdonly 3\nget v 3\nget v@replica 1\nget v@rdonly 2\r\n") ≡ codes "ok\nok\nok\nok\nok\nok\nok\nok\nok\nevents 0 rows 0\nok\nok\nrefused F26 Stopped\nok\nnone\nok\nevents 0 rows 0\nok\nrefused F30 Exists\nrefused F13 UnderWay\nnone\nevents 0 rows 1\nevents 0 rows 0\nok\nevents 0 rows 0\nrefused F3 Denied\nok\nrefused F5 NoRow\nok\nrefused F13 UnderWay\nok\nrefused F13 UnderWay\nnone\nm3 A a_ t,v switched - way forward primary,replica,rdonly 2 undoing forward running 1 copied back none\nok\nrefused F13 UnderWay\nrefused X1 BadLine\nok\nrefused F13 UnderWay\nok\nrefused F5 NoRow\nok\nrefused F3 Denied\nok\n{\"rules\":[{\"from_table\":\"A.t@rdonly\",\"to_tables\":[\"a_.t\"]},{\"from_table\":\"A.t@replica\",\"to_tables\":[\"a_.t\"]},{\"from_table\":\"A.v@rdonly\",\"to_tables\":[\"a_.v\"]},{\"from_table\":\"A.v@replica\",\"to_tables\":[\"a_.v\"]},{\"from_table\":\"a_.t\",\"to_tables\":[\"A.t\"]},{\"from_table\":\"a_.t@rdonly\",\"to_tables\":[\"a_.t\"]},{\"from_table\":\"a_.t@replica\",\"to_tables\":[\"a_.t\"]},{\"from_table\":\"a_.v\",\"to_tables\":[\"A.v\"]},{\"from_table\":\"a_.v@rdonly\",\"to_tables\":[\"a_.v\"]},{\"from_table\":\"a_.v@replica\",\"to_tables\":[\"a_.v\"]},{\"from_table\":\"t\",\"to_tables\":[\"A.t\"]},{\"from_table\":\"t@rdonly\",\"to_tables\":[\"a_.t\"]},{\"from_table\":\"t@replica\",\"to_tables\":[\"a_.t\"]},{\"from_table\":\"v\",\"to_tables\":[\"A.v\"]},{\"from_table\":\"v@rdonly\",\"to_tables\":[\"a_.v\"]},{\"from_table\":\"v@replica\",\"to_tables\":[\"a_.v\"]}]}\n{\"denied\":[\"a_.t\",\"a_.v\"],\"keyspaces\":[{\"name\":\"A\",\"shards\":[\"-\"],\"tables\":[\"t\",\"u\",\"v\"]},{\"name\":\"a\",\"shards\":[\"-\"],\"tables\":[]},{\"name\":\"a-\",\"shards\":[\"-\"],\"tables\":[\"v\"]},{\"name\":\"a_\",\"shards\":[\"-\"],\"tables\":[\"t\",\"v\"]}],\"rules\":[{\"from_table\":\"A.t@rdonly\",\"to_tables\":[\"a_.t\"]},{\"from_table\":\"A.t@replica\",\"to_tables\":[\"a_.t\"]},{\"from_table\":\"A.v@rdonly\",\"to_tables\":[\"a_.v\"]},{\"from_table\":\"A.v@replica\",\"to_tables\":[\"a_.v\"]},{\"from_table\":\"a_.t\",\"to_tables\":[\"A.t\"]},{\"from_table\":\"a_.t@rdonly\",\"to_tables\":[\"a_.t\"]},{\"from_table\":\"a_.t@replica\",\"to_tables\":[\"a_.t\"]},{\"from_table\":\"a_.v\",\"to_tables\":[\"A.v\"]},{\"from_table\":\"a_.v@rdonly\",\"to_tables\":[\"a_.v\"]},{\"from_table\":\"a_.v@replica\",\"to_tables\":[\"a_.v\"]},{\"from_table\":\"t\",\"to_tables\":[\"A.t\"]},{\"from_table\":\"t@rdonly\",\"to_tables\":[\"a_.t\"]},{\"from_table\":\"t@replica\",\"to_tables\":[\"a_.t\"]},{\"from_table\":\"v\",\"to_tables\":[\"A.v\"]},{\"from_table\":\"v@rdonly\",\"to_tables\":[\"a_.v\"]},{\"from_table\":\"v@replica\",\"to_tables\":[\"a_.v\"]}],\"version\":2}\nrefused F7 NoWorkflow\nrefused F7 NoWorkflow\nm3 A a_ t,v switched - way forward primary,replica,rdonly 1 undoing forward running 1 copied back none\nnone\nnone\nnone\nnone\nnone\nnone\nnone\nnone\nnone\nnone\nnone\nnone\nnone\nnone\nnone\nnone\nnone\nnone\nnone\nrow c\nrow c\nnone\nrow c\nrow c\nnone\nrow c\nrow c\nnone\nnone\nnone\nnone\nnone\nnone\nnone\nnone\nnone\nrefused F3 Denied\nrefused F3 Denied\nrefused F3 Denied\nnone\nnone\nnone\nnone\nnone\nnone\nrefused F3 Denied\nrefused F3 Denied\nrefused F3 Denied\nnone\nnone\nnone\nnone\nnone\nnone\nnone\nnone\nnone\nnone\nnone\nnone\nrow c\nnone\nnone\n"

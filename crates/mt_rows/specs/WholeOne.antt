@@ -27,7 +27,7 @@ abbrev pub whole_008 : Type 0
 whole_008 = output (watchers_of (codes "commerce" ∷ codes "customer" ∷ [])) (codes "keyspace commerce\nkeyspace customer\ntable commerce u\ntable commerce v\nat commerce.u insert 3 d\nkeyspace commerce\ntable customer -t\nappend commerce.v 3 b\nrules\nkeyspace commerce\nta$ble customer -t\ninsert t 1 vvvvvvvvvvvvvvvvvvvvvvvvvvvvvvvvvvvvvvvvvvvvvvvvvvvvvvvvvvvvvvvvv\ncreate m2 commerce customer u,v\ncancel m2\nappnd commerce.v 3 b\ncreate m3 commerce customer v\nshow m3\nat\nkeyspae commere\nbegin-switch m3 replica\nstep m3 10\n1show m3\nrule customer.v customer.t\nrules\ndump\nshow m1\nshow m2\nshow m3\nat commerce.u@primary get 1\nat commerce.u@primary get 3\nat commerce.u@replica get 1\nat commerce.u@replica get 3\nat commerce.u@rdonly get 1\nat commerce.u@rdonly get 3\nat commerce.v@primary get 1\nat commerce.v@primary get 3\nat commerce.v@replica get 1\nat commerce.v@replica get 3\nat commerce.v@rdonly get 1\nat commerce.v@rdonly get 3\nat customer.v@primary get 1\nat customer.v@primary get 3\nat customer.v@replica get 1\nat customer.v@replica get 3\nat customer.v@rdonly get 1\nat customer.v@rdonly get 3\nget t 1\nget t@replica 1\nget t@rdonly 3\nget u 3\nget u@replica 1\nget u@rdonly 3\nget v 3\nget v@replica 3\nget v@rdonly 3\n") ≡ codes "ok\nok\nok\nok\nok\nrefused F30 Exists\nrefused N3 BadByte\nrefused F5 NoRow\n{\"rules\":[]}\nrefused F30 Exists\nrefused X1 BadLine\nrefused X1 BadLine\nok\nok\nrefused X1 BadLine\nok\nm3 commerce customer v switched - way none forward running 1 copying back none\nrefused X1 BadLine\nrefused X1 BadLine\nrefused F17 Copying\nrefused F14 NothingUnderWay\nrefused X1 BadLine\nrefused F22 RuleOwned\n{\"rules\":[{\"from_table\":\"commerce.v@rdonly\",\"to_tables\":[\"commerce.v\"]},{\"from_table\":\"commerce.v@replica\",\"to_tables\":[\"commerce.v\"]},{\"from_table\":\"customer.v\",\"to_tables\":[\"commerce.v\"]},{\"from_table\":\"customer.v@rdonly\",\"to_tables\":[\"commerce.v\"]},{\"from_table\":\"customer.v@replica\",\"to_tables\":[\"commerce.v\"]},{\"from_table\":\"v\",\"to_tables\":[\"commerce.v\"]},{\"from_table\":\"v@rdonly\",\"to_tables\":[\"commerce.v\"]},{\"from_table\":\"v@replica\",\"to_tables\":[\"commerce.v\"]}]}\n{\"denied\":[\"customer.v\"],\"keyspaces\":[{\"name\":\"commerce\",\"shards\":[\"-\"],\"tables\":[\"u\",\"v\"]},{\"name\":\"customer\",\"shards\":[\"-\"],\"tables\":[\"v\"]}],\"rules\":[{\"from_table\":\"commerce.v@rdonly\",\"to_tables\":[\"commerce.v\"]},{\"from_table\":\"commerce.v@replica\",\"to_tables\":[\"commerce.v\"]},{\"from_table\":\"customer.v\",\"to_tables\":[\"commerce.v\"]},{\"from_table\":\"customer.v@rdonly\",\"to_tables\":[\"commerce.v\"]},{\"from_table\":\"customer.v@replica\",\"to_tables\":[\"commerce.v\"]},{\"from_table\":\"v\",\"to_tables\":[\"commerce.v\"]},{\"from_table\":\"v@rdonly\",\"to_tables\":[\"commerce.v\"]},{\"from_table\":\"v@replica\",\"to_tables\":[\"commerce.v\"]}],\"version\":2}\nrefused F7 NoWorkflow\nrefused F7 NoWorkflow\nm3 commerce customer v switched - way none forward running 1 copying back none\nnone\nrow d\nnone\nrow d\nnone\nrow d\nnone\nnone\nnone\nnone\nnone\nnone\nrefused F3 Denied\nrefused F3 Denied\nnone\nnone\nnone\nnone\nrefused T2 NoTable\nrefused T2 NoTable\nrefused T2 NoTable\nrow d\nnone\nrow d\nnone\nnone\nnone\n"
 
 abbrev pub whole_009 : Type 0
-whole_009 = output (watchers_of (codes "a" ∷ codes "a-b" ∷ codes "b" ∷ [])) (codes "keyspace a\nkeyspace a-b\nkeyspace b\ntable a corder\nupdate a.corder 3 y\ncreate reverse a a-b corder\nadvance reverse forward/- 0 2\nadvance reverse forward 0 2\nbegin-switch reverse primary,rdonly\nstep reverse 0\nstep reverse 1\nstep reverse 2\nstep reverse 3\nstep reverse 4\nshow reverse\nreverse 2\nstep reverse 5\nundo reverse 6\nat a.corder append 18446744073709551615 r\nundo reverse 5\nundo reverse 4\nundo reverse 3\nat a-b.corder@primary append 72057594037927935 a\nbegin-switch reverse rdonly,-\nat a-b.corder insert 2 x\nat a.corder delete 1\nappend b.corder 1 b\nadvance reverse forward  100\ninsert a.corder 1 y\nrule a.corder a.corder\nstep reverse 2\nstep reverse 2\nat a-b.corder append 18446744073709551615 r\nstep reverse 2\nundo reverse 2\nundo reverse 14\nat a.corder insert 0 q\nstep reverse 1\nat a.corder append 1 r\nadvance reverse forward 0 65535\nbegin-switch reverse primary,rdonly\nbegin-switch reverse all\nbegin-switch reverse all\nstep reverse 1\nstep reverse 1\nat a-b.corder insert 18446744073709551615 q\nget corder@primary 0\nstep reverse 1\nstep reverse 2\nat a-b.corder delete 0\nswitch reverse primary,replica,rdonly\nadvance reverse forward 3 1\ncreate reverse a-b b corder\nbegin-switch reverse all\nget corder 72057594037927936\nrules\ndump\nshow a\nshow reverse\nshow _revers\nat a.corder@primary get 0\nat a.corder@primary get 1\nat a.corder@replica get 0\nat a.corder@replica get 1\nat a.corder@rdonly get 0\nat a.corder@rdonly get 1\nat a-b.corder@primary get 0\nat a-b.corder@primary get 1\nat a-b.corder@replica get 0\nat a-b.corder@replica get 1\nat a-b.corder@rdonly get 0\nat a-b.corder@rdonly get 1\nget corder 1\nget corder@replica 1\nget corder@rdonly 1\n") ≡ codes "ok\nok\nok\nok\nrefused F5 NoRow\nok\nrefused X1 BadLine\nevents 0 rows 0\nok\nok\nok\nok\nok\nok\nreverse a a-b corder switched - way forward primary,rdonly 5 forward stopped 0 copied back none\nrefused X1 BadLine\nok\nok\nrefused F3 Denied\nok\nok\nok\nrefused F3 Denied\nrefused N6 BadType\nrefused F3 Denied\nrefused F5 NoRow\nrefused F2 NoTable\nrefused X1 BadLine\nok\nrefused F22 RuleOwned\nrefused F28 Undoing\nrefused F28 Undoing\nrefused F3 Denied\nrefused F28 Undoing\nok\nrefused F25 Stale\nok\nrefused F28 Undoing\nok\nevents 3 rows 0\nrefused F13 UnderWay\nrefused F13 UnderWay\nrefused F13 UnderWay\nrefused F28 Undoing\nrefused F28 Undoing\nrefused F3 Denied\nrow q\nrefused F28 Undoing\nrefused F28 Undoing\nrefused F3 Denied\nrefused F13 UnderWay\nevents 0 rows 0\nrefused F6 WorkflowExists\nrefused F13 UnderWay\nnone\n{\"rules\":[{\"from_table\":\"a-b.corder\",\"to_tables\":[\"a.corder\"]},{\"from_table\":\"a-b.corder@rdonly\",\"to_tables\":[\"a-b.corder\"]},{\"from_table\":\"a-b.corder@replica\",\"to_tables\":[\"a.corder\"]},{\"from_table\":\"a.corder@rdonly\",\"to_tables\":[\"a-b.corder\"]},{\"from_table\":\"a.corder@replica\",\"to_tables\":[\"a.corder\"]},{\"from_table\":\"corder\",\"to_tables\":[\"a.corder\"]},{\"from_table\":\"corder@rdonly\",\"to_tables\":[\"a-b.corder\"]},{\"from_table\":\"corder@replica\",\"to_tables\":[\"a.corder\"]}]}\n{\"denied\":[\"a-b.corder\"],\"keyspaces\":[{\"name\":\"a\",\"shards\":[\"-\"],\"tables\":[\"corder\"]},{\"name\":\"a-b\",\"shards\":[\"-\"],\"tables\":[\"corder\"]},{\"name\":\"b\",\"shards\":[\"-\"],\"tables\":[]}],\"rules\":[{\"from_table\":\"a-b.corder\",\"to_tables\":[\"a.corder\"]},{\"from_table\":\"a-b.corder@rdonly\",\"to_tables\":[\"a-b.corder\"]},{\"from_table\":\"a-b.corder@replica\",\"to_tables\":[\"a.corder\"]},{\"from_table\":\"a.corder@rdonly\",\"to_tables\":[\"a-b.corder\"]},{\"from_table\":\"a.corder@replica\",\"to_tables\":[\"a.corder\"]},{\"from_table\":\"corder\",\"to_tables\":[\"a.corder\"]},{\"from_table\":\"corder@rdonly\",\"to_tables\":[\"a-b.corder\"]},{\"from_table\":\"corder@replica\",\"to_tables\":[\"a.corder\"]}],\"version\":2}\nrefused F7 NoWorkflow\nreverse a a-b corder switched - way forward primary,rdonly 1 undoing forward running 3 copied back none\nrefused F7 NoWorkflow\nrow q\nrow yr\nrow q\nrow yr\nrow q\nrow yr\nrefused F3 Denied\nrefused F3 Denied\nrow q\nrow yr\nrow q\nrow yr\nrow yr\nrow yr\nrow yr\n"
+whole_009 = output (watchers_of (codes "a" ∷ codes "a-b" ∷ codes "b" ∷ [])) (codes "keyspace a\nkeyspace a-b\nkeyspace b\ntable a corder\nupdate a.corder 3 y\ncreate reverse a a-b corder\nadvance reverse forward/- 0 2\nadvance reverse forward 0 2\nbegin-switch reverse primary,rdonly\nstep reverse 0\nstep reverse 1\nstep reverse 2\nstep reverse 3\nstep reverse 4\nshow reverse\nreverse 2\nstep reverse 5\nundo reverse 6\nat a.corder append 18446744073709551615 r\nundo reverse 5\nundo reverse 4\nundo reverse 3\nat a-b.corder@primary append 72057594037927935 a\nbegin-switch reverse rdonly,-\nat a-b.corder insert 2 x\nat a.corder delete 1\nappend b.corder 1 b\nadvance reverse forward  100\ninsert a.corder 1 y\nrule a.corder a.corder\nstep reverse 2\nstep reverse 2\nat a-b.corder append 18446744073709551615 r\nstep reverse 2\nundo reverse 2\nundo reverse 14\nat a.corder insert 0 q\nstep reverse 1\nat a.corder append 1 r\nadvance reverse forward 0 65535\nbegin-switch reverse primary,rdonly\nbegin-switch reverse all\nbegin-switch reverse all\nstep reverse 1\nstep reverse 1\nat a-b.corder insert 18446744073709551615 q\nget corder@primary 0\nstep reverse 1\nstep reverse 2\nat a-b.corder delete 0\nswitch reverse primary,replica,rdonly\nadvance reverse forward 3 1\ncreate reverse a-b b corder\nbegin-switch reverse all\nget corder 72057594037927936\nrules\ndump\nshow a\nshow reverse\nshow _revers\nat a.corder@primary get 0\nat a.corder@primary get 1\nat a.corder@replica get 0\nat a.corder@replica get 1\nat a.corder@rdonly get 0\nat a.corder@rdonly get 1\nat a-b.corder@primary get 0\nat a-b.corder@primary get 1\nat a-b.corder@replica get 0\nat a-b.corder@replica get 1\nat a-b.corder@rdonly get 0\nat a-b.corder@rdonly get 1\nget corder 1\nget corder@replica 1\nget corder@rdonly 1\n") ≡ codes "ok\nok\nok\nok\nrefused F5 NoRow\nok\nevents 0 rows 0\nevents 0 rows 0\nok\nok\nok\nok\nok\nok\nreverse a a-b corder switched - way forward primary,rdonly 5 forward stopped 0 copied back none\nrefused X1 BadLine\nok\nok\nrefused F3 Denied\nok\nok\nok\nrefused F3 Denied\nrefused N6 BadType\nrefused F3 Denied\nrefused F5 NoRow\nrefused F2 NoTable\nrefused X1 BadLine\nok\nrefused F22 RuleOwned\nrefused F28 Undoing\nrefused F28 Undoing\nrefused F3 Denied\nrefused F28 Undoing\nok\nrefused F25 Stale\nok\nrefused F28 Undoing\nok\nevents 3 rows 0\nrefused F13 UnderWay\nrefused F13 UnderWay\nrefused F13 UnderWay\nrefused F28 Undoing\nrefused F28 Undoing\nrefused F3 Denied\nrow q\nrefused F28 Undoing\nrefused F28 Undoing\nrefused F3 Denied\nrefused F13 UnderWay\nevents 0 rows 0\nrefused F6 WorkflowExists\nrefused F13 UnderWay\nnone\n{\"rules\":[{\"from_table\":\"a-b.corder\",\"to_tables\":[\"a.corder\"]},{\"from_table\":\"a-b.corder@rdonly\",\"to_tables\":[\"a-b.corder\"]},{\"from_table\":\"a-b.corder@replica\",\"to_tables\":[\"a.corder\"]},{\"from_table\":\"a.corder@rdonly\",\"to_tables\":[\"a-b.corder\"]},{\"from_table\":\"a.corder@replica\",\"to_tables\":[\"a.corder\"]},{\"from_table\":\"corder\",\"to_tables\":[\"a.corder\"]},{\"from_table\":\"corder@rdonly\",\"to_tables\":[\"a-b.corder\"]},{\"from_table\":\"corder@replica\",\"to_tables\":[\"a.corder\"]}]}\n{\"denied\":[\"a-b.corder\"],\"keyspaces\":[{\"name\":\"a\",\"shards\":[\"-\"],\"tables\":[\"corder\"]},{\"name\":\"a-b\",\"shards\":[\"-\"],\"tables\":[\"corder\"]},{\"name\":\"b\",\"shards\":[\"-\"],\"tables\":[]}],\"rules\":[{\"from_table\":\"a-b.corder\",\"to_tables\":[\"a.corder\"]},{\"from_table\":\"a-b.corder@rdonly\",\"to_tables\":[\"a-b.corder\"]},{\"from_table\":\"a-b.corder@replica\",\"to_tables\":[\"a.corder\"]},{\"from_table\":\"a.corder@rdonly\",\"to_tables\":[\"a-b.corder\"]},{\"from_table\":\"a.corder@replica\",\"to_tables\":[\"a.corder\"]},{\"from_table\":\"corder\",\"to_tables\":[\"a.corder\"]},{\"from_table\":\"corder@rdonly\",\"to_tables\":[\"a-b.corder\"]},{\"from_table\":\"corder@replica\",\"to_tables\":[\"a.corder\"]}],\"version\":2}\nrefused F7 NoWorkflow\nreverse a a-b corder switched - way forward primary,rdonly 1 undoing forward running 3 copied back none\nrefused F7 NoWorkflow\nrow q\nrow yr\nrow q\nrow yr\nrow q\nrow yr\nrefused F3 Denied\nrefused F3 Denied\nrow q\nrow yr\nrow q\nrow yr\nrow yr\nrow yr\nrow yr\n"
 
 abbrev pub whole_010 : Type 0
 whole_010 = output (watchers_of (codes "k1" ∷ codes "k2" ∷ codes "k3" ∷ [])) (codes "keyspace k1\nkeyspace k2\nkeyspace k3\ntable k1 primary\ntable k3 primary\ntable k1 t\ntable k3 t\ntable k1 all\ntable k3 all\ntable k1 k1\nat k1.primary append 0001 vvvvvvvvvvvvvvvvvvvvvvvvvvvvvvvvvvvvvvvvvvvvvvvvvvvvvvvvvvvvvvvvv\ninsert primary 1 #\nat k1.primary update 18446744073709551615 z\nupdate k3.all@rdonly 1152921504606846976 z\ninsert all 18374686479671623680 d\nat k1.t insert 1 y\nappend primary 0 z\nat k3.all@primary update 2 vvvvvvvvvvvvvvvvvvvvvvvvvvvvvvvvvvvvvvvvvvvvvvvvvvvvvvvvvvvvvvvvv\nat k1.k1 get 0001\ncreate a k3 k2 primary\nadvance a forward 0 100\nbegin-switch a all\nstep a 0\nundo a 1\nundo a 0\nat k2.k1 delete 2\nadvance a back 0 100\nadvance a forward 0 3\nbegin-switch a rdonly\nstep a 0\nbegin-switch a all\nstep a 0\nstep a 1\nat k3.primary delete 0\nstep a 2\nstep a 3\nstep a 4\nat k2.primary get 1\nat k2.primary insert 1 b\ninsert k2.primary 3 x\ninsert primary@primary 1152921504606846976 x\ndelete k3.primary@primary 0\nshow a\nrules\nstep a 5\ncancel a\nget k3.primary 1\nstep a 6\nstep a 7\nstep a 7\nstep a 8\nstep a 9\nundo a 10\nfrobnicate\nbegin-reverse a all\nrule all@replica k1.t\nrules\ndump\nshow a\nshow reverse\nshow _revers\nat k1.primary@primary get 1\nat k1.primary@replica get 1\nat k1.primary@rdonly get 1\nat k1.t@primary get 1\nat k1.t@replica get 1\nat k1.t@rdonly get 1\nat k1.all@primary get 1\nat k1.all@replica get 1\nat k1.all@rdonly get 1\nat k1.k1@primary get 1\nat k1.k1@replica get 1\nat k1.k1@rdonly get 1\nat k2.primary@primary get 1\nat k2.primary@replica get 1\nat k2.primary@rdonly get 1\nat k3.primary@primary get 1\nat k3.primary@replica get 1\nat k3.primary@rdonly get 1\nat k3.t@primary get 1\nat k3.t@replica get 1\nat k3.t@rdonly get 1\nat k3.all@primary get 1\nat k3.all@replica get 1\nat k3.all@rdonly get 1\nget primary 1\nget primary@replica 1\nget primary@rdonly 1\nget t 1\nget t@replica 1\nget t@rdonly 1\nget all 1\nget all@replica 1\nget all@rdonly 1\nget k1 1\nget k1@replica 1\nget k1@rdonly 1\n") ≡ codes "ok\nok\nok\nok\nok\nok\nok\nok\nok\nok\nrefused X1 BadLine\nrefused T3 Ambiguous\nrefused F5 NoRow\nrefused X1 BadLine\nrefused T3 Ambiguous\nok\nrefused T3 Ambiguous\nrefused X1 BadLine\nnone\nok\nevents 0 rows 0\nok\nok\nok\nrefused F14 NothingUnderWay\nrefused F2 NoTable\nrefused F26 Stopped\nevents 0 rows 0\nok\nok\nok\nok\nok\nrefused F5 NoRow\nok\nok\nok\nrefused F3 Denied\nrefused F3 Denied\nrefused F3 Denied\nrefused F3 Denied\nrefused F3 Denied\na k3 k2 primary switched rdonly way forward primary,replica 5 forward stopped 0 copied back none\n{\"rules\":[{\"from_table\":\"k2.primary\",\"to_tables\":[\"k3.primary\"]},{\"from_table\":\"k2.primary@rdonly\",\"to_tables\":[\"k2.primary\"]},{\"from_table\":\"k2.primary@replica\",\"to_tables\":[\"k2.primary\"]},{\"from_table\":\"k3.primary@rdonly\",\"to_tables\":[\"k2.primary\"]},{\"from_table\":\"k3.primary@replica\",\"to_tables\":[\"k2.primary\"]},{\"from_table\":\"primary\",\"to_tables\":[\"k3.primary\"]},{\"from_table\":\"primary@rdonly\",\"to_tables\":[\"k2.primary\"]},{\"from_table\":\"primary@replica\",\"to_tables\":[\"k2.primary\"]}]}\nok\nrefused F13 UnderWay\nrefused F3 Denied\nok\nok\nrefused F25 Stale\nok\nok\nrefused F19 PastJournal\nrefused X1 BadLine\nrefused F13 UnderWay\nok\n{\"rules\":[{\"from_table\":\"all@replica\",\"to_tables\":[\"k1.t\"]},{\"from_table\":\"k2.primary@rdonly\",\"to_tables\":[\"k2.primary\"]},{\"from_table\":\"k2.primary@replica\",\"to_tables\":[\"k2.primary\"]},{\"from_table\":\"k3.primary\",\"to_tables\":[\"k2.primary\"]},{\"from_table\":\"k3.primary@rdonly\",\"to_tables\":[\"k2.primary\"]},{\"from_table\":\"k3.primary@replica\",\"to_tables\":[\"k2.primary\"]},{\"from_table\":\"primary\",\"to_tables\":[\"k2.primary\"]},{\"from_table\":\"primary@rdonly\",\"to_tables\":[\"k2.primary\"]},{\"from_table\":\"primary@replica\",\"to_tables\":[\"k2.primary\"]}]}\n{\"denied\":[\"k3.primary\"],\"keyspaces\":[{\"name\":\"k1\",\"shards\":[\"-\"],\"tables\":[\"all\",\"k1\",\"primary\",\"t\"]},{\"name\":\"k2\",\"shards\":[\"-\"],\"tables\":[\"primary\"]},{\"name\":\"k3\",\"shards\":[\"-\"],\"tables\":[\"all\",\"primary\",\"t\"]}],\"rules\":[{\"from_table\":\"all@replica\",\"to_tables\":[\"k1.t\"]},{\"from_table\":\"k2.primary@rdonly\",\"to_tables\":[\"k2.primary\"]},{\"from_table\":\"k2.primary@replica\",\"to_tables\":[\"k2.primary\"]},{\"from_table\":\"k3.primary\",\"to_tables\":[\"k2.primary\"]},{\"from_table\":\"k3.primary@rdonly\",\"to_tables\":[\"k2.primary\"]},{\"from_table\":\"k3.primary@replica\",\"to_tables\":[\"k2.primary\"]},{\"from_table\":\"primary\",\"to_tables\":[\"k2.primary\"]},{\"from_table\":\"primary@rdonly\",\"to_tables\":[\"k2.primary\"]},{\"from_table\":\"primary@replica\",\"to_tables\":[\"k2.primary\"]}],\"version\":2}\na k3 k2 primary switched primary,replica,rdonly way forward primary,replica 10 forward stopped 0 copied back stopped 0\nrefused F7 NoWorkflow\nrefused F7 NoWorkflow\nnone\nnone\nnone\nrow y\nrow y\nrow y\nnone\nnone\nnone\nnone\nnone\nnone\nnone\nnone\nnone\nrefused F3 Denied\nnone\nnone\nnone\nnone\nnone\nnone\nnone\nnone\nnone\nnone\nnone\nrefused T3 Ambiguous\nrefused T3 Ambiguous\nrefused T3 Ambiguous\nrefused T3 Ambiguous\nrow y\nrefused T3 Ambiguous\nnone\nnone\nnone\n"

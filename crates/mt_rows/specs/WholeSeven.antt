@@ -27,7 +27,7 @@ abbrev pub whole_068 : Type 0
 whole_068 = output (watchers_of (codes "A" ∷ codes "a" ∷ codes "a_" ∷ codes "a-" ∷ [])) (codes "keyspace A\nkeyspace a\nkeyspace a_\nkeyspace a-\ntable A corder\ntable a- corder\nat a-.corder insert 2 z\nappend corder 2 x\ncreate w a- a corder\nadvance w forward 1 100\nbegin-switch w rdonly\nat A.corder insert 2 d\nat a-.corder update 4611686018427387904 c\nundo w 0\nat a-.corder insert 1 q\nshow w\nget corder@master 0001\nat a.corder insert 2 d\nshow w\nbegin-switch w rdonly\nstep w 0\nstep w 0\nat a.corder insert 18446744073709551615 q\nstep w 0\nupdate corder@primary 2 vvvvvvvvvvvvvvvvvvvvvvvvvvvvvvvvvvvvvvvvvvvvvvvvvvvvvvvvvvvvvvvvv\nstep w 0\nat a-.corder insert 18446744073709551615 q\nstep w 0\nat a.corder insert 18446744073709551615 q\nstep w 0\nadvance w forward 1 100\ndelete corder@primary 18446744073709551615\nstep w 0\nat a-.corder append 18446744073709551615 r\nstep w 0\nadvance w forward 3 100\nstep w 0\nat a.corder insert 18446744073709551615 q\nbegin-switch w primary,replica\nget a_.corder 1\ndump\nat a.corder@primary insert 2 x\nget corder 3\nstep w 0\nat a.corder insert 1 q\nbegin-reverse w replica,primary,rdonly\nstep w 1\nstep w 2\nbegin-switch w replica\nundo w 3\nat a.corder insert 1 p\nundo w 2\nundo w 1\nbegin-switch w primary,replica,rdonly\nstep w 0\nstep w 1\nget corder@rdonly 3\nstep w 2\nat A.corder@primary append 3 c\ncancel w\nbegin-switch w primary\ninsert corder 0 y\nat A.corder insert 0 a\ninsert corder 2 b\nstep w 3\nat a-.corder append 0 r\nstep w 4\nupdate corder@primary 3 z\nstep w 5\nrules\ndump\nshow w\nshow WWWWWWWWWWWWWWWWWWWWWWWWWWWWWWWWWWWWWWWWWWWWWWWWWWWWWWWWWWWWWWWW\nat A.corder@primary get 0\nat A.corder@primary get 1\nat A.corder@primary get 2\nat A.corder@replica get 0\nat A.corder@replica get 1\nat A.corder@replica get 2\nat A.corder@rdonly get 0\nat A.corder@rdonly get 1\nat A.corder@rdonly get 2\nat a.corder@primary get 0\nat a.corder@primary get 1\nat a.corder@primary get 2\nat a.corder@replica get 0\nat a.corder@replica get 1\nat a.corder@replica get 2\nat a.corder@rdonly get 0\nat a.corder@rdonly get 1\nat a.corder@rdonly get 2\nat a-.corder@primary get 0\nat a-.corder@primary get 1\nat a-.corder@primary get 2\nat a-.corder@replica get 0\nat a-.corder@replica get 1\nat a-.corder@replica get 2\nat a-.corder@rdonly get 0\nat a-.corder@rdonly get 1\nat a-.corder@rdonly get 2\nget corder 2\nget corder@replica 1\nget corder@rdonly 2\n") ≡ codes "ok\nok\nok\nok\nok\nok\nok\nrefused T3 Ambiguous\nok\nevents 0 rows 1\nok\nok\nrefused F5 NoRow\nok\nok\nw a- a corder switched - way none forward running 1 copied back none\nrefused N6 BadType\nrefused F3 Denied\nw a- a corder switched - way none forward running 1 copied back none\nok\nrefused F18 NotLevel\nrefused F18 NotLevel\nrefused F3 Denied\nrefused F18 NotLevel\nrefused X1 BadLine\nrefused F18 NotLevel\nok\nrefused F18 NotLevel\nrefused F3 Denied\nrefused F18 NotLevel\nevents 2 rows 0\nok\nrefused F18 NotLevel\nrefused F5 NoRow\nrefused F18 NotLevel\nevents 1 rows 0\nok\nrefused F3 Denied\nok\nrefused F2 NoTable\n{\"denied\":[\"a.corder\"],\"keyspaces\":[{\"name\":\"A\",\"shards\":[\"-\"],\"tables\":[\"corder\"]},{\"name\":\"a\",\"shards\":[\"-\"],\"tables\":[\"corder\"]},{\"name\":\"a-\",\"shards\":[\"-\"],\"tables\":[\"corder\"]},{\"name\":\"a_\",\"shards\":[\"-\"],\"tables\":[]}],\"rules\":[{\"from_table\":\"a-.corder@rdonly\",\"to_tables\":[\"a.corder\"]},{\"from_table\":\"a-.corder@replica\",\"to_tables\":[\"a-.corder\"]},{\"from_table\":\"a.corder\",\"to_tables\":[\"a-.corder\"]},{\"from_table\":\"a.corder@rdonly\",\"to_tables\":[\"a.corder\"]},{\"from_table\":\"a.corder@replica\",\"to_tables\":[\"a-.corder\"]},{\"from_table\":\"corder\",\"to_tables\":[\"a-.corder\"]},{\"from_table\":\"corder@rdonly\",\"to_tables\":[\"a.corder\"]},{\"from_table\":\"corder@replica\",\"to_tables\":[\"a-.corder\"]}],\"version\":2}\nrefused F3 Denied\nnone\nok\nrefused F3 Denied\nrefused F13 UnderWay\nok\nok\nrefused F13 UnderWay\nok\nrefused F3 Denied\nok\nok\nok\nok\nok\nnone\nok\nrefused F5 NoRow\nrefused F13 UnderWay\nrefused F13 UnderWay\nrefused F3 Denied\nok\nrefused F3 Denied\nok\nrefused F3 Denied\nok\nrefused F3 Denied\nok\n{\"rules\":[{\"from_table\":\"a-.corder@rdonly\",\"to_tables\":[\"a.corder\"]},{\"from_table\":\"a-.corder@replica\",\"to_tables\":[\"a.corder\"]},{\"from_table\":\"a.corder\",\"to_tables\":[\"a-.corder\"]},{\"from_table\":\"a.corder@rdonly\",\"to_tables\":[\"a.corder\"]},{\"from_table\":\"a.corder@replica\",\"to_tables\":[\"a.corder\"]},{\"from_table\":\"corder\",\"to_tables\":[\"a-.corder\"]},{\"from_table\":\"corder@rdonly\",\"to_tables\":[\"a.corder\"]},{\"from_table\":\"corder@replica\",\"to_tables\":[\"a.corder\"]}]}\n{\"denied\":[\"a-.corder\",\"a.corder\"],\"keyspaces\":[{\"name\":\"A\",\"shards\":[\"-\"],\"tables\":[\"corder\"]},{\"name\":\"a\",\"shards\":[\"-\"],\"tables\":[\"corder\"]},{\"name\":\"a-\",\"shards\":[\"-\"],\"tables\":[\"corder\"]},{\"name\":\"a_\",\"shards\":[\"-\"],\"tables\":[]}],\"rules\":[{\"from_table\":\"a-.corder@rdonly\",\"to_tables\":[\"a.corder\"]},{\"from_table\":\"a-.corder@replica\",\"to_tables\":[\"a.corder\"]},{\"from_table\":\"a.corder\",\"to_tables\":[\"a-.corder\"]},{\"from_table\":\"a.corder@rdonly\",\"to_tables\":[\"a.corder\"]},{\"from_table\":\"a.corder@replica\",\"to_tables\":[\"a.corder\"]},{\"from_table\":\"corder\",\"to_tables\":[\"a-.corder\"]},{\"from_table\":\"corder@rdonly\",\"to_tables\":[\"a.corder\"]},{\"from_table\":\"corder@replica\",\"to_tables\":[\"a.corder\"]}],\"version\":2}\nw a- a corder switched rdonly way forward primary,replica 6 forward stopped 4 copied back stopped 4\nrefused F7 NoWorkflow\nrow a\nnone\nrow d\nrow a\nnone\nrow d\nrow a\nnone\nrow d\nrefused F3 Denied\nrefused F3 Denied\nrefused F3 Denied\nnone\nrow q\nrow z\nnone\nrow q\nrow z\nrefused F3 Denied\nrefused F3 Denied\nrefused F3 Denied\nnone\nrow q\nrow z\nnone\nrow q\nrow z\nrefused F3 Denied\nrow q\nrow z\n"
 
 abbrev pub whole_069 : Type 0
-whole_069 = output (watchers_of (codes "a" ∷ codes "a-b" ∷ codes "b" ∷ [])) (codes "keyspace a\nkeyspace a-b\nkeyspace b\ntable a t\ntable a u\ntable a v\nat a.t@primary append 1 x\ncreate mv a a-b v\nadvance mv forward 0 100\nundo m_reverse 11\nrule a-b.v@primary k.t@replica\nbegin-switch mv rdonly,primary\nstep mv 0\nat a.v insert 0 p\ninsert a-b.v 18374686479671623680 d\nstep mv 1\nat a-b.v update 2 y\nstep mv 2\nadvance mv forward/- 0 100\nstep mv 3\nadvance mv forward 0 100\nstep mv 3\nat a-b.v insert 0 p\ncomplete mv\nbegin-switch mv all\ncomplete mv\nshow mv\nrules\nstep mv 4\nat a.t@primary get 1\nstep mv 5\nstep mv 6\nappend a.t 2 c\nstep mv 7\nbegin-switch mv primary,replica,rdonly\nstep mv 8\nget b.u@rdonly 9223372036854775808\ncreate mv a-b a v\nbegin-reverse mv replica,primary\nstep mv 9\nstep mv 10\nat a-b.v insert 0 q\nstep mv 11\nbegin-switch mv replica\nstep mv 0\nat a-b.v insert 0 p\nget t@primary 2\nadvance mv back 2 2\nbegin-reverse mv all\nstep mv 0\nat a-b.v get 1\nstep mv 1\nadvance mv back 2 1\nstep mv 2\nat a.v append 1 r\nrule t@replica a.v\nget a.u@rdonly 4611686018427387904\nstep mv 3\nat a.v@rdonly get 0\ndelete a-b.v 3\ncreate mv a b t,u\nadvance mv back 2 3\nstep mv 4\nstep mv 5\nbegin-reverse mv primary\nrules\ndump\nshow mv\nat a.t@primary get 0\nat a.t@primary get 1\nat a.t@primary get 18374686479671623680\nat a.t@replica get 0\nat a.t@replica get 1\nat a.t@replica get 18374686479671623680\nat a.t@rdonly get 0\nat a.t@rdonly get 1\nat a.t@rdonly get 18374686479671623680\nat a.u@primary get 0\nat a.u@primary get 1\nat a.u@primary get 18374686479671623680\nat a.u@replica get 0\nat a.u@replica get 1\nat a.u@replica get 18374686479671623680\nat a.u@rdonly get 0\nat a.u@rdonly get 1\nat a.u@rdonly get 18374686479671623680\nat a.v@primary get 0\nat a.v@primary get 1\nat a.v@primary get 18374686479671623680\nat a.v@replica get 0\nat a.v@replica get 1\nat a.v@replica get 18374686479671623680\nat a.v@rdonly get 0\nat a.v@rdonly get 1\nat a.v@rdonly get 18374686479671623680\nat a-b.v@primary get 0\nat a-b.v@primary get 1\nat a-b.v@primary get 18374686479671623680\nat a-b.v@replica get 0\nat a-b.v@replica get 1\nat a-b.v@replica get 18374686479671623680\nat a-b.v@rdonly get 0\nat a-b.v@rdonly get 1\nat a-b.v@rdonly get 18374686479671623680\nget t 0\nget t@replica 0\nget t@rdonly 0\nget u 0\nget u@replica 18374686479671623680\nget u@rdonly 1\nget v 1\nget v@replica 1\nget v@rdonly 18374686479671623680\n") ≡ codes "ok\nok\nok\nok\nok\nok\nrefused F5 NoRow\nok\nevents 0 rows 0\nrefused N5 ReservedSuffix\nrefused N3 BadByte\nok\nok\nok\nok\nok\nrefused F3 Denied\nok\nrefused X1 BadLine\nrefused F18 NotLevel\nevents 2 rows 0\nok\nrefused F3 Denied\nrefused F13 UnderWay\nrefused F13 UnderWay\nrefused F13 UnderWay\nmv a a-b v switched - way forward primary,rdonly 4 forward running 2 copied back none\n{\"rules\":[{\"from_table\":\"a-b.v\",\"to_tables\":[\"a.v\"]},{\"from_table\":\"a-b.v@rdonly\",\"to_tables\":[\"a-b.v\"]},{\"from_table\":\"a-b.v@replica\",\"to_tables\":[\"a.v\"]},{\"from_table\":\"a.v@rdonly\",\"to_tables\":[\"a-b.v\"]},{\"from_table\":\"a.v@replica\",\"to_tables\":[\"a.v\"]},{\"from_table\":\"v\",\"to_tables\":[\"a.v\"]},{\"from_table\":\"v@rdonly\",\"to_tables\":[\"a-b.v\"]},{\"from_table\":\"v@replica\",\"to_tables\":[\"a.v\"]}]}\nok\nnone\nok\nok\nrefused F5 NoRow\nok\nrefused F13 UnderWay\nok\nrefused F2 NoTable\nrefused F6 WorkflowExists\nrefused F13 UnderWay\nok\nok\nrefused F4 RowExists\nok\nok\nok\nrefused F4 RowExists\nnone\nevents 0 rows 0\nok\nok\nnone\nok\nevents 0 rows 0\nok\nrefused F3 Denied\nok\nnone\nok\nrow p\nrefused F3 Denied\nrefused F6 WorkflowExists\nevents 0 rows 0\nok\nok\nrefused F13 UnderWay\n{\"rules\":[{\"from_table\":\"a-b.v@rdonly\",\"to_tables\":[\"a.v\"]},{\"from_table\":\"a-b.v@replica\",\"to_tables\":[\"a.v\"]},{\"from_table\":\"a.v\",\"to_tables\":[\"a-b.v\"]},{\"from_table\":\"a.v@rdonly\",\"to_tables\":[\"a.v\"]},{\"from_table\":\"a.v@replica\",\"to_tables\":[\"a.v\"]},{\"from_table\":\"t@replica\",\"to_tables\":[\"a.v\"]},{\"from_table\":\"v\",\"to_tables\":[\"a-b.v\"]},{\"from_table\":\"v@rdonly\",\"to_tables\":[\"a.v\"]},{\"from_table\":\"v@replica\",\"to_tables\":[\"a.v\"]}]}\n{\"denied\":[\"a-b.v\",\"a.v\"],\"keyspaces\":[{\"name\":\"a\",\"shards\":[\"-\"],\"tables\":[\"t\",\"u\",\"v\"]},{\"name\":\"a-b\",\"shards\":[\"-\"],\"tables\":[\"v\"]},{\"name\":\"b\",\"shards\":[\"-\"],\"tables\":[]}],\"rules\":[{\"from_table\":\"a-b.v@rdonly\",\"to_tables\":[\"a.v\"]},{\"from_table\":\"a-b.v@replica\",\"to_tables\":[\"a.v\"]},{\"from_table\":\"a.v\",\"to_tables\":[\"a-b.v\"]},{\"from_table\":\"a.v@rdonly\",\"to_tables\":[\"a.v\"]},{\"from_table\":\"a.v@replica\",\"to_tables\":[\"a.v\"]},{\"from_table\":\"t@replica\",\"to_tables\":[\"a.v\"]},{\"from_table\":\"v\",\"to_tables\":[\"a-b.v\"]},{\"from_table\":\"v@rdonly\",\"to_tables\":[\"a.v\"]},{\"from_table\":\"v@replica\",\"to_tables\":[\"a.v\"]}],\"version\":2}\nmv a a-b v switched primary,replica,rdonly way back primary,replica,rdonly 6 forward stopped 2 copied back stopped 2\nnone\nnone\nnone\nnone\nnone\nnone\nnone\nnone\nnone\nnone\nnone\nnone\nnone\nnone\nnone\nnone\nnone\nnone\nrefused F3 Denied\nrefused F3 Denied\nrefused F3 Denied\nrow p\nnone\nrow d\nrow p\nnone\nrow d\nrefused F3 Denied\nrefused F3 Denied\nrefused F3 Denied\nrow p\nnone\nrow d\nrow p\nnone\nrow d\nnone\nrow p\nnone\nnone\nnone\nnone\nrefused F3 Denied\nnone\nrow d\n"
+whole_069 = output (watchers_of (codes "a" ∷ codes "a-b" ∷ codes "b" ∷ [])) (codes "keyspace a\nkeyspace a-b\nkeyspace b\ntable a t\ntable a u\ntable a v\nat a.t@primary append 1 x\ncreate mv a a-b v\nadvance mv forward 0 100\nundo m_reverse 11\nrule a-b.v@primary k.t@replica\nbegin-switch mv rdonly,primary\nstep mv 0\nat a.v insert 0 p\ninsert a-b.v 18374686479671623680 d\nstep mv 1\nat a-b.v update 2 y\nstep mv 2\nadvance mv forward/- 0 100\nstep mv 3\nadvance mv forward 0 100\nstep mv 3\nat a-b.v insert 0 p\ncomplete mv\nbegin-switch mv all\ncomplete mv\nshow mv\nrules\nstep mv 4\nat a.t@primary get 1\nstep mv 5\nstep mv 6\nappend a.t 2 c\nstep mv 7\nbegin-switch mv primary,replica,rdonly\nstep mv 8\nget b.u@rdonly 9223372036854775808\ncreate mv a-b a v\nbegin-reverse mv replica,primary\nstep mv 9\nstep mv 10\nat a-b.v insert 0 q\nstep mv 11\nbegin-switch mv replica\nstep mv 0\nat a-b.v insert 0 p\nget t@primary 2\nadvance mv back 2 2\nbegin-reverse mv all\nstep mv 0\nat a-b.v get 1\nstep mv 1\nadvance mv back 2 1\nstep mv 2\nat a.v append 1 r\nrule t@replica a.v\nget a.u@rdonly 4611686018427387904\nstep mv 3\nat a.v@rdonly get 0\ndelete a-b.v 3\ncreate mv a b t,u\nadvance mv back 2 3\nstep mv 4\nstep mv 5\nbegin-reverse mv primary\nrules\ndump\nshow mv\nat a.t@primary get 0\nat a.t@primary get 1\nat a.t@primary get 18374686479671623680\nat a.t@replica get 0\nat a.t@replica get 1\nat a.t@replica get 18374686479671623680\nat a.t@rdonly get 0\nat a.t@rdonly get 1\nat a.t@rdonly get 18374686479671623680\nat a.u@primary get 0\nat a.u@primary get 1\nat a.u@primary get 18374686479671623680\nat a.u@replica get 0\nat a.u@replica get 1\nat a.u@replica get 18374686479671623680\nat a.u@rdonly get 0\nat a.u@rdonly get 1\nat a.u@rdonly get 18374686479671623680\nat a.v@primary get 0\nat a.v@primary get 1\nat a.v@primary get 18374686479671623680\nat a.v@replica get 0\nat a.v@replica get 1\nat a.v@replica get 18374686479671623680\nat a.v@rdonly get 0\nat a.v@rdonly get 1\nat a.v@rdonly get 18374686479671623680\nat a-b.v@primary get 0\nat a-b.v@primary get 1\nat a-b.v@primary get 18374686479671623680\nat a-b.v@replica get 0\nat a-b.v@replica get 1\nat a-b.v@replica get 18374686479671623680\nat a-b.v@rdonly get 0\nat a-b.v@rdonly get 1\nat a-b.v@rdonly get 18374686479671623680\nget t 0\nget t@replica 0\nget t@rdonly 0\nget u 0\nget u@replica 18374686479671623680\nget u@rdonly 1\nget v 1\nget v@replica 1\nget v@rdonly 18374686479671623680\n") ≡ codes "ok\nok\nok\nok\nok\nok\nrefused F5 NoRow\nok\nevents 0 rows 0\nrefused N5 ReservedSuffix\nrefused N3 BadByte\nok\nok\nok\nok\nok\nrefused F3 Denied\nok\nevents 2 rows 0\nok\nrefused F25 Stale\nrefused F25 Stale\nrefused F3 Denied\nrefused F13 UnderWay\nrefused F13 UnderWay\nrefused F13 UnderWay\nmv a a-b v switched - way forward primary,rdonly 4 forward running 2 copied back none\n{\"rules\":[{\"from_table\":\"a-b.v\",\"to_tables\":[\"a.v\"]},{\"from_table\":\"a-b.v@rdonly\",\"to_tables\":[\"a-b.v\"]},{\"from_table\":\"a-b.v@replica\",\"to_tables\":[\"a.v\"]},{\"from_table\":\"a.v@rdonly\",\"to_tables\":[\"a-b.v\"]},{\"from_table\":\"a.v@replica\",\"to_tables\":[\"a.v\"]},{\"from_table\":\"v\",\"to_tables\":[\"a.v\"]},{\"from_table\":\"v@rdonly\",\"to_tables\":[\"a-b.v\"]},{\"from_table\":\"v@replica\",\"to_tables\":[\"a.v\"]}]}\nok\nnone\nok\nok\nrefused F5 NoRow\nok\nrefused F13 UnderWay\nok\nrefused F2 NoTable\nrefused F6 WorkflowExists\nrefused F13 UnderWay\nok\nok\nrefused F4 RowExists\nok\nok\nok\nrefused F4 RowExists\nnone\nevents 0 rows 0\nok\nok\nnone\nok\nevents 0 rows 0\nok\nrefused F3 Denied\nok\nnone\nok\nrow p\nrefused F3 Denied\nrefused F6 WorkflowExists\nevents 0 rows 0\nok\nok\nrefused F13 UnderWay\n{\"rules\":[{\"from_table\":\"a-b.v@rdonly\",\"to_tables\":[\"a.v\"]},{\"from_table\":\"a-b.v@replica\",\"to_tables\":[\"a.v\"]},{\"from_table\":\"a.v\",\"to_tables\":[\"a-b.v\"]},{\"from_table\":\"a.v@rdonly\",\"to_tables\":[\"a.v\"]},{\"from_table\":\"a.v@replica\",\"to_tables\":[\"a.v\"]},{\"from_table\":\"t@replica\",\"to_tables\":[\"a.v\"]},{\"from_table\":\"v\",\"to_tables\":[\"a-b.v\"]},{\"from_table\":\"v@rdonly\",\"to_tables\":[\"a.v\"]},{\"from_table\":\"v@replica\",\"to_tables\":[\"a.v\"]}]}\n{\"denied\":[\"a-b.v\",\"a.v\"],\"keyspaces\":[{\"name\":\"a\",\"shards\":[\"-\"],\"tables\":[\"t\",\"u\",\"v\"]},{\"name\":\"a-b\",\"shards\":[\"-\"],\"tables\":[\"v\"]},{\"name\":\"b\",\"shards\":[\"-\"],\"tables\":[]}],\"rules\":[{\"from_table\":\"a-b.v@rdonly\",\"to_tables\":[\"a.v\"]},{\"from_table\":\"a-b.v@replica\",\"to_tables\":[\"a.v\"]},{\"from_table\":\"a.v\",\"to_tables\":[\"a-b.v\"]},{\"from_table\":\"a.v@rdonly\",\"to_tables\":[\"a.v\"]},{\"from_table\":\"a.v@replica\",\"to_tables\":[\"a.v\"]},{\"from_table\":\"t@replica\",\"to_tables\":[\"a.v\"]},{\"from_table\":\"v\",\"to_tables\":[\"a-b.v\"]},{\"from_table\":\"v@rdonly\",\"to_tables\":[\"a.v\"]},{\"from_table\":\"v@replica\",\"to_tables\":[\"a.v\"]}],\"version\":2}\nmv a a-b v switched primary,replica,rdonly way back primary,replica,rdonly 6 forward stopped 2 copied back stopped 2\nnone\nnone\nnone\nnone\nnone\nnone\nnone\nnone\nnone\nnone\nnone\nnone\nnone\nnone\nnone\nnone\nnone\nnone\nrefused F3 Denied\nrefused F3 Denied\nrefused F3 Denied\nrow p\nnone\nrow d\nrow p\nnone\nrow d\nrefused F3 Denied\nrefused F3 Denied\nrefused F3 Denied\nrow p\nnone\nrow d\nrow p\nnone\nrow d\nnone\nrow p\nnone\nnone\nnone\nnone\nrefused F3 Denied\nnone\nrow d\n"
 
 abbrev pub whole_070 : Type 0
 whole_070 = output (watchers_of (codes "a" ∷ codes "a-b" ∷ codes "b" ∷ [])) (codes "keyspace a\nkeyspace a-b\nkeyspace b\ntable a primary\ntable a-b primary\ntable a t\ntable a all\ntable a-b all\ntable a k1\ninsert a-b.primary 3 z\nat a-b.all insert 0 x\nat a.t delete 0001\nrule t a-b.t\nrule primary@replica -\nat a.k1@replica get 1152921504606846976\ncreate w a-b b all\nundo w 8\nadvance w forward 2 100\nbegin-switch w replica\nget all 0001\nbegin-switch w replica\ncancel w\ninsert all 00000000000000000001 x\nstep w 0\nappend b.k1 1 vvvvvvvvvvvvvvvvvvvvvvvvvvvvvvvvvvvvvvvv\nshow w\ndump\nswitch w primary,rdonly\nat a.k1 update 3 y\nrules\ndump\nshow w\nshow WWWWWWWWWWWWWWWWWWWWWWWWWWWWWWWWWWWWWWWWWWWWWWWWWWWWWWWWWWWWWWWW\nat a.primary@primary get 0\nat a.primary@primary get 1\nat a.primary@primary get 3\nat a.primary@replica get 0\nat a.primary@replica get 1\nat a.primary@replica get 3\nat a.primary@rdonly get 0\nat a.primary@rdonly get 1\nat a.primary@rdonly get 3\nat a.t@primary get 0\nat a.t@primary get 1\nat a.t@primary get 3\nat a.t@replica get 0\nat a.t@replica get 1\nat a.t@replica get 3\nat a.t@rdonly get 0\nat a.t@rdonly get 1\nat a.t@rdonly get 3\nat a.all@primary get 0\nat a.all@primary get 1\nat a.all@primary get 3\nat a.all@replica get 0\nat a.all@replica get 1\nat a.all@replica get 3\nat a.all@rdonly get 0\nat a.all@rdonly get 1\nat a.all@rdonly get 3\nat a.k1@primary get 0\nat a.k1@primary get 1\nat a.k1@primary get 3\nat a.k1@replica get 0\nat a.k1@replica get 1\nat a.k1@replica get 3\nat a.k1@rdonly get 0\nat a.k1@rdonly get 1\nat a.k1@rdonly get 3\nat a-b.primary@primary get 0\nat a-b.primary@primary get 1\nat a-b.primary@primary get 3\nat a-b.primary@replica get 0\nat a-b.primary@replica get 1\nat a-b.primary@replica get 3\nat a-b.primary@rdonly get 0\nat a-b.primary@rdonly get 1\nat a-b.primary@rdonly get 3\nat a-b.all@primary get 0\nat a-b.all@primary get 1\nat a-b.all@primary get 3\nat a-b.all@replica get 0\nat a-b.all@replica get 1\nat a-b.all@replica get 3\nat a-b.all@rdonly get 0\nat a-b.all@rdonly get 1\nat a-b.all@rdonly get 3\nat b.all@primary get 0\nat b.all@primary get 1\nat b.all@primary get 3\nat b.all@replica get 0\nat b.all@replica get 1\nat b.all@replica get 3\nat b.all@rdonly get 0\nat b.all@rdonly get 1\nat b.all@rdonly get 3\nget primary 0\nget primary@replica 3\nget primary@rdonly 1\nget t 3\nget t@replica 3\nget t@rdonly 3\nget all 0\nget all@replica 1\nget all@rdonly 3\nget k1 0\nget k1@replica 0\nget k1@rdonly 0\n") ≡ codes "ok\nok\nok\nok\nok\nok\nok\nok\nok\nok\nok\nrefused F5 NoRow\nok\nok\nnone\nok\nrefused F14 NothingUnderWay\nevents 0 rows 1\nok\nnone\nrefused F13 UnderWay\nrefused F13 UnderWay\nok\nrefused F18 NotLevel\nrefused F2 NoTable\nw a-b b all switched - way forward replica 0 forward running 2 copied back none\n{\"denied\":[\"b.all\"],\"keyspaces\":[{\"name\":\"a\",\"shards\":[\"-\"],\"tables\":[\"all\",\"k1\",\"primary\",\"t\"]},{\"name\":\"a-b\",\"shards\":[\"-\"],\"tables\":[\"all\",\"primary\"]},{\"name\":\"b\",\"shards\":[\"-\"],\"tables\":[\"all\"]}],\"rules\":[{\"from_table\":\"a-b.all@rdonly\",\"to_tables\":[\"a-b.all\"]},{\"from_table\":\"a-b.all@replica\",\"to_tables\":[\"a-b.all\"]},{\"from_table\":\"all\",\"to_tables\":[\"a-b.all\"]},{\"from_table\":\"all@rdonly\",\"to_tables\":[\"a-b.all\"]},{\"from_table\":\"all@replica\",\"to_tables\":[\"a-b.all\"]},{\"from_table\":\"b.all\",\"to_tables\":[\"a-b.all\"]},{\"from_table\":\"b.all@rdonly\",\"to_tables\":[\"a-b.all\"]},{\"from_table\":\"b.all@replica\",\"to_tables\":[\"a-b.all\"]},{\"from_table\":\"t\",\"to_tables\":[\"a-b.t\"]}],\"version\":2}\nrefused F13 UnderWay\nrefused F5 NoRow\n{\"rules\":[{\"from_table\":\"a-b.all@rdonly\",\"to_tables\":[\"a-b.all\"]},{\"from_table\":\"a-b.all@replica\",\"to_tables\":[\"a-b.all\"]},{\"from_table\":\"all\",\"to_tables\":[\"a-b.all\"]},{\"from_table\":\"all@rdonly\",\"to_tables\":[\"a-b.all\"]},{\"from_table\":\"all@replica\",\"to_tables\":[\"a-b.all\"]},{\"from_table\":\"b.all\",\"to_tables\":[\"a-b.all\"]},{\"from_table\":\"b.all@rdonly\",\"to_tables\":[\"a-b.all\"]},{\"from_table\":\"b.all@replica\",\"to_tables\":[\"a-b.all\"]},{\"from_table\":\"t\",\"to_tables\":[\"a-b.t\"]}]}\n{\"denied\":[\"b.all\"],\"keyspaces\":[{\"name\":\"a\",\"shards\":[\"-\"],\"tables\":[\"all\",\"k1\",\"primary\",\"t\"]},{\"name\":\"a-b\",\"shards\":[\"-\"],\"tables\":[\"all\",\"primary\"]},{\"name\":\"b\",\"shards\":[\"-\"],\"tables\":[\"all\"]}],\"rules\":[{\"from_table\":\"a-b.all@rdonly\",\"to_tables\":[\"a-b.all\"]},{\"from_table\":\"a-b.all@replica\",\"to_tables\":[\"a-b.all\"]},{\"from_table\":\"all\",\"to_tables\":[\"a-b.all\"]},{\"from_table\":\"all@rdonly\",\"to_tables\":[\"a-b.all\"]},{\"from_table\":\"all@replica\",\"to_tables\":[\"a-b.all\"]},{\"from_table\":\"b.all\",\"to_tables\":[\"a-b.all\"]},{\"from_table\":\"b.all@rdonly\",\"to_tables\":[\"a-b.all\"]},{\"from_table\":\"b.all@replica\",\"to_tables\":[\"a-b.all\"]},{\"from_table\":\"t\",\"to_tables\":[\"a-b.t\"]}],\"version\":2}\nw a-b b all switched - way forward replica 0 forward running 2 copied back none\nrefused F7 NoWorkflow\nnone\nnone\nnone\nnone\nnone\nnone\nnone\nnone\nnone\nnone\nnone\nnone\nnone\nnone\nnone\nnone\nnone\nnone\nnone\nnone\nnone\nnone\nnone\nnone\nnone\nnone\nnone\nnone\nnone\nnone\nnone\nnone\nnone\nnone\nnone\nnone\nnone\nnone\nrow z\nnone\nnone\nrow z\nnone\nnone\nrow z\nrow x\nrow x\nnone\nrow x\nrow x\nnone\nrow x\nrow x\nnone\nrefused F3 Denied\nrefused F3 Denied\nrefused F3 Denied\nrow x\nnone\nnone\nrow x\nnone\nnone\nrefused T3 Ambiguous\nrefused T3 Ambiguous\nrefused T3 Ambiguous\nrefused F2 NoTable\nrefused F2 NoTable\nrefused F2 NoTable\nrow x\nrow x\nnone\nnone\nnone\nnone\n"

@@ -18,7 +18,7 @@ abbrev pub whole_055 : Type 0
 whole_055 = output (watchers_of (codes "A" ∷ codes "a" ∷ codes "a_" ∷ codes "a-" ∷ [])) (codes "keyspace A\nkeyspace a\nkeyspace a_\nkeyspace a-\ntable A t\ntable a t\ntable a_ t\ntable A t$\nupdate t 3 c\ncreate m2 a_ a t\ncreate m2 A a t$\nadvance m2 forward 0 100\nundo m2 4\nshow m2\nundo m2 10\nrules\ndump\nshow m1\nshow m2\nshow m3\nat A.t@primary get 1\nat A.t@replica get 1\nat A.t@rdonly get 1\nat A.t$@primary get 1\nat A.t$@replica get 1\nat A.t$@rdonly get 1\nat a.t@primary get 1\nat a.t@replica get 1\nat a.t@rdonly get 1\nat a.t$@primary get 1\nat a.t$@replica get 1\nat a.t$@rdonly get 1\nat a_.t@primary get 1\nat a_.t@replica get 1\nat a_.t@rdonly get 1\nget t 1\nget t@replica 1\nget t@rdonly 1\nget t$ 1\nget t$@replica 1\nget t$@rdonly 1\nget t-1 1\nget t-1@replica 1\nget t-1@rdonly 1\nshow m2\ncomplete m2\nswitch m2 replica\nundo m2 7\nbegin-switch m2 all\nreverse m2 all\ncreate m1 a a- t\nbegin-switch m2 all\nrules\ndump\nshow m1\nshow m2\nshow m3\nat A.t@primary get 1\nat A.t@replica get 1\nat A.t@rdonly get 1\nat A.t$@primary get 1\nat A.t$@replica get 1\nat A.t$@rdonly get 1\nat a.t@primary get 1\nat a.t@replica get 1\nat a.t@rdonly get 1\nat a.t$@primary get 1\nat a.t$@replica get 1\nat a.t$@rdonly get 1\nat a-.t@primary get 1\nat a-.t@replica get 1\nat a-.t@rdonly get 1\nat a_.t@primary get 1\nat a_.t@replica get 1\nat a_.t@rdonly get 1\nget t 1\nget t@replica 1\nget t@rdonly 1\nget t$ 1\nget t$@replica 1\nget t$@rdonly 1\nget t-1 1\nget t-1@replica 1\nget t-1@rdonly 1\n") ≡ codes "ok\nok\nok\nok\nok\nok\nok\nok\nrefused T3 Ambiguous\nrefused F10 TargetHasTable\nok\nevents 0 rows 0\nrefused F14 NothingUnderWay\nm2 A a t$ switched - way none forward running 0 copied back none\nrefused F14 NothingUnderWay\n{\"rules\":[{\"from_table\":\"A.t$@rdonly\",\"to_tables\":[\"A.t$\"]},{\"from_table\":\"A.t$@replica\",\"to_tables\":[\"A.t$\"]},{\"from_table\":\"a.t$\",\"to_tables\":[\"A.t$\"]},{\"from_table\":\"a.t$@rdonly\",\"to_tables\":[\"A.t$\"]},{\"from_table\":\"a.t$@replica\",\"to_tables\":[\"A.t$\"]},{\"from_table\":\"t$\",\"to_tables\":[\"A.t$\"]},{\"from_table\":\"t$@rdonly\",\"to_tables\":[\"A.t$\"]},{\"from_table\":\"t$@replica\",\"to_tables\":[\"A.t$\"]}]}\n{\"denied\":[\"a.t$\"],\"keyspaces\":[{\"name\":\"A\",\"shards\":[\"-\"],\"tables\":[\"t\",\"t$\"]},{\"name\":\"a\",\"shards\":[\"-\"],\"tables\":[\"t\",\"t$\"]},{\"name\":\"a-\",\"shards\":[\"-\"],\"tables\":[]},{\"name\":\"a_\",\"shards\":[\"-\"],\"tables\":[\"t\"]}],\"rules\":[{\"from_table\":\"A.t$@rdonly\",\"to_tables\":[\"A.t$\"]},{\"from_table\":\"A.t$@replica\",\"to_tables\":[\"A.t$\"]},{\"from_table\":\"a.t$\",\"to_tables\":[\"A.t$\"]},{\"from_table\":\"a.t$@rdonly\",\"to_tables\":[\"A.t$\"]},{\"from_table\":\"a.t$@replica\",\"to_tables\":[\"A.t$\"]},{\"from_table\":\"t$\",\"to_tables\":[\"A.t$\"]},{\"from_table\":\"t$@rdonly\",\"to_tables\":[\"A.t$\"]},{\"from_table\":\"t$@replica\",\"to_tables\":[\"A.t$\"]}],\"version\":2}\nrefused F7 NoWorkflow\nm2 A a t$ switched - way none forward running 0 copied back none\nrefused F7 NoWorkflow\nnone\nnone\nnone\nnone\nnone\nnone\nnone\nnone\nnone\nrefused F3 Denied\nnone\nnone\nnone\nnone\nnone\nrefused T3 Ambiguous\nrefused T3 Ambiguous\nrefused T3 Ambiguous\nnone\nnone\nnone\nrefused T2 NoTable\nrefused T2 NoTable\nrefused T2 NoTable\nm2 A a t$ switched - way none forward running 0 copied back none\nrefused F21 NotAllSwitched\nok\nrefused F14 NothingUnderWay\nok\nrefused F13 UnderWay\nok\nrefused F13 UnderWay\n{\"rules\":[{\"from_table\":\"A.t$@rdonly\",\"to_tables\":[\"A.t$\"]},{\"from_table\":\"A.t$@replica\",\"to_tables\":[\"a.t$\"]},{\"from_table\":\"a-.t\",\"to_tables\":[\"a.t\"]},{\"from_table\":\"a-.t@rdonly\",\"to_tables\":[\"a.t\"]},{\"from_table\":\"a-.t@replica\",\"to_tables\":[\"a.t\"]},{\"from_table\":\"a.t$\",\"to_tables\":[\"A.t$\"]},{\"from_table\":\"a.t$@rdonly\",\"to_tables\":[\"A.t$\"]},{\"from_table\":\"a.t$@replica\",\"to_tables\":[\"a.t$\"]},{\"from_table\":\"a.t@rdonly\",\"to_tables\":[\"a.t\"]},{\"from_table\":\"a.t@replica\",\"to_tables\":[\"a.t\"]},{\"from_table\":\"t\",\"to_tables\":[\"a.t\"]},{\"from_table\":\"t$\",\"to_tables\":[\"A.t$\"]},{\"from_table\":\"t$@rdonly\",\"to_tables\":[\"A.t$\"]},{\"from_table\":\"t$@replica\",\"to_tables\":[\"a.t$\"]},{\"from_table\":\"t@rdonly\",\"to_tables\":[\"a.t\"]},{\"from_table\":\"t@replica\",\"to_tables\":[\"a.t\"]}]}\n{\"denied\":[\"a-.t\",\"a.t$\"],\"keyspaces\":[{\"name\":\"A\",\"shards\":[\"-\"],\"tables\":[\"t\",\"t$\"]},{\"name\":\"a\",\"shards\":[\"-\"],\"tables\":[\"t\",\"t$\"]},{\"name\":\"a-\",\"shards\":[\"-\"],\"tables\":[\"t\"]},{\"name\":\"a_\",\"shards\":[\"-\"],\"tables\":[\"t\"]}],\"rules\":[{\"from_table\":\"A.t$@rdonly\",\"to_tables\":[\"A.t$\"]},{\"from_table\":\"A.t$@replica\",\"to_tables\":[\"a.t$\"]},{\"from_table\":\"a-.t\",\"to_tables\":[\"a.t\"]},{\"from_table\":\"a-.t@rdonly\",\"to_tables\":[\"a.t\"]},{\"from_table\":\"a-.t@replica\",\"to_tables\":[\"a.t\"]},{\"from_table\":\"a.t$\",\"to_tables\":[\"A.t$\"]},{\"from_table\":\"a.t$@rdonly\",\"to_tables\":[\"A.t$\"]},{\"from_table\":\"a.t$@replica\",\"to_tables\":[\"a.t$\"]},{\"from_table\":\"a.t@rdonly\",\"to_tables\":[\"a.t\"]},{\"from_table\":\"a.t@replica\",\"to_tables\":[\"a.t\"]},{\"from_table\":\"t\",\"to_tables\":[\"a.t\"]},{\"from_table\":\"t$\",\"to_tables\":[\"A.t$\"]},{\"from_table\":\"t$@rdonly\",\"to_tables\":[\"A.t$\"]},{\"from_table\":\"t$@replica\",\"to_tables\":[\"a.t$\"]},{\"from_table\":\"t@rdonly\",\"to_tables\":[\"a.t\"]},{\"from_table\":\"t@replica\",\"to_tables\":[\"a.t\"]}],\"version\":2}\nm1 a a- t switched - way none forward running 0 copying back none\nm2 A a t$ switched replica way forward primary,rdonly 0 forward running 0 copied back none\nrefused F7 NoWorkflow\nnone\nnone\nnone\nnone\nnone\nnone\nnone\nnone\nnone\nrefused F3 Denied\nnone\nnone\nrefused F3 Denied\nnone\nnone\nnone\nnone\nnone\nnone\nnone\nnone\nnone\nnone\nnone\nrefused T2 NoTable\nrefused T2 NoTable\nrefused T2 NoTable\n"
 
 abbrev pub whole_056 : Type 0
-whole_056 = output (watchers_of (codes "a-b" ∷ [])) (codes "keyspace a\nkeyspace a-b\nkeyspace b\ntable a t\ntable a-b t\ntable a u\ntable a v\nappend t 3 c\nupdate a.u 2 c\nat a.t append 3 d\nappend v 1 x\nappend u 4611686018427387904 z\ndelete t@primary 3\nat a.t append 9223372036854775808 b\nat a.v@primary insert 0 d\ninsert t 1 vvvvvvvvvvvvvvvvvvvvvvvvvvvvvvvvvvvvvvvvvvvvvvvvvvvvvvvvvvvvvvvvv\nat a-b.t insert 1 y\nkeyspace a\nupdate a.u c\nrule nosuch.u .\nkeyspace a-b\ncreate a a-b b t\ncreate a a a-b v\nbegin-switch a replica,primary\nkeyspace k9 x\ndelete t@rdonly 1\n\r\r\nrule u a-b.v\n\r\nkeyspace b\nat a.v@master get 1\nrule a b\nrules\ndump\nshow a\nshow reverse\nshow _revers\nat a.t@primary get 0\nat a.t@primary get 1\nat a.t@replica get 0\nat a.t@replica get 1\nat a.t@rdonly get 0\nat a.t@rdonly get 1\nat a.u@primary get 0\nat a.u@primary get 1\nat a.u@replica get 0\nat a.u@replica get 1\nat a.u@rdonly get 0\nat a.u@rdonly get 1\nat a.v@primary get 0\nat a.v@primary get 1\nat a.v@replica get 0\nat a.v@replica get 1\nat a.v@rdonly get 0\nat a.v@rdonly get 1\nat a-b.t@primary get 0\nat a-b.t@primary get 1\nat a-b.t@replica get 0\nat a-b.t@replica get 1\nat a-b.t@rdonly get 0\nat a-b.t@rdonly get 1\nat a-b.v@primary get 0\nat a-b.v@primary get 1\nat a-b.v@replica get 0\nat a-b.v@replica get 1\nat a-b.v@rdonly get 0\nat a-b.v@rdonly get 1\nget t 0\nget t@replica 1\nget t@rdonly 1\nget u 1\nget u@replica 0\nget u@rdonly 0\nget v 0\nget v@replica 1\nget v@rdonly 1\n") ≡ codes "ok\nok\nok\nok\nok\nok\nok\nrefused T3 Ambiguous\nrefused F5 NoRow\nrefused F5 NoRow\nrefused F5 NoRow\nrefused F5 NoRow\nrefused T3 Ambiguous\nrefused F5 NoRow\nok\nrefused X1 BadLine\nok\nrefused F30 Exists\nrefused X1 BadLine\nrefused N1 Empty\nrefused F30 Exists\nrefused F24 NoWatcher\nok\nrefused F17 Copying\nrefused X1 BadLine\nrefused X1 BadLine\nrefused X1 BadLine\nok\nrefused F30 Exists\nrefused N6 BadType\nrefused N8 NoKeyspace\n{\"rules\":[{\"from_table\":\"a-b.v\",\"to_tables\":[\"a.v\"]},{\"from_table\":\"a-b.v@rdonly\",\"to_tables\":[\"a.v\"]},{\"from_table\":\"a-b.v@replica\",\"to_tables\":[\"a.v\"]},{\"from_table\":\"a.v@rdonly\",\"to_tables\":[\"a.v\"]},{\"from_table\":\"a.v@replica\",\"to_tables\":[\"a.v\"]},{\"from_table\":\"u\",\"to_tables\":[\"a-b.v\"]},{\"from_table\":\"v\",\"to_tables\":[\"a.v\"]},{\"from_table\":\"v@rdonly\",\"to_tables\":[\"a.v\"]},{\"from_table\":\"v@replica\",\"to_tables\":[\"a.v\"]}]}\n{\"denied\":[\"a-b.v\"],\"keyspaces\":[{\"name\":\"a\",\"shards\":[\"-\"],\"tables\":[\"t\",\"u\",\"v\"]},{\"name\":\"a-b\",\"shards\":[\"-\"],\"tables\":[\"t\",\"v\"]},{\"name\":\"b\",\"shards\":[\"-\"],\"tables\":[]}],\"rules\":[{\"from_table\":\"a-b.v\",\"to_tables\":[\"a.v\"]},{\"from_table\":\"a-b.v@rdonly\",\"to_tables\":[\"a.v\"]},{\"from_table\":\"a-b.v@replica\",\"to_tables\":[\"a.v\"]},{\"from_table\":\"a.v@rdonly\",\"to_tables\":[\"a.v\"]},{\"from_table\":\"a.v@replica\",\"to_tables\":[\"a.v\"]},{\"from_table\":\"u\",\"to_tables\":[\"a-b.v\"]},{\"from_table\":\"v\",\"to_tables\":[\"a.v\"]},{\"from_table\":\"v@rdonly\",\"to_tables\":[\"a.v\"]},{\"from_table\":\"v@replica\",\"to_tables\":[\"a.v\"]}],\"version\":2}\na a a-b v switched - way none forward running 1 copying back none\nrefused F7 NoWorkflow\nrefused F7 NoWorkflow\nnone\nnone\nnone\nnone\nnone\nnone\nnone\nnone\nnone\nnone\nnone\nnone\nrow d\nnone\nrow d\nnone\nrow d\nnone\nnone\nrow y\nnone\nrow y\nnone\nrow y\nrefused F3 Denied\nrefused F3 Denied\nnone\nnone\nnone\nnone\nrefused T3 Ambiguous\nrefused T3 Ambiguous\nrefused T3 Ambiguous\nrefused F3 Denied\nnone\nnone\nrow d\nnone\nnone\n"
+whole_056 = output (watchers_of (codes "a-b" ∷ [])) (codes "keyspace a\nkeyspace a-b\nkeyspace b\ntable a t\ntable a-b t\ntable a u\ntable a v\nappend t 3 c\nupdate a.u 2 c\nat a.t append 3 d\nappend v 1 x\nappend u 4611686018427387904 z\ndelete t@primary 3\nat a.t append 9223372036854775808 b\nat a.v@primary insert 0 d\ninsert t 1 vvvvvvvvvvvvvvvvvvvvvvvvvvvvvvvvvvvvvvvvvvvvvvvvvvvvvvvvvvvvvvvvv\nat a-b.t insert 1 y\nkeyspace a\nupdate a.u c\nrule nosuch.u .\nkeyspace a-b\ncreate a a-b b t\ncreate a a a-b v\nbegin-switch a replica,primary\nkeyspace k9 x\ndelete t@rdonly 1\n\r\r\nrule u a-b.v\n\r\nkeyspace b\nat a.v@master get 1\nrule a b\nrules\ndump\nshow a\nshow reverse\nshow _revers\nat a.t@primary get 0\nat a.t@primary get 1\nat a.t@replica get 0\nat a.t@replica get 1\nat a.t@rdonly get 0\nat a.t@rdonly get 1\nat a.u@primary get 0\nat a.u@primary get 1\nat a.u@replica get 0\nat a.u@replica get 1\nat a.u@rdonly get 0\nat a.u@rdonly get 1\nat a.v@primary get 0\nat a.v@primary get 1\nat a.v@replica get 0\nat a.v@replica get 1\nat a.v@rdonly get 0\nat a.v@rdonly get 1\nat a-b.t@primary get 0\nat a-b.t@primary get 1\nat a-b.t@replica get 0\nat a-b.t@replica get 1\nat a-b.t@rdonly get 0\nat a-b.t@rdonly get 1\nat a-b.v@primary get 0\nat a-b.v@primary get 1\nat a-b.v@replica get 0\nat a-b.v@replica get 1\nat a-b.v@rdonly get 0\nat a-b.v@rdonly get 1\nget t 0\nget t@replica 1\nget t@rdonly 1\nget u 1\nget u@replica 0\nget u@rdonly 0\nget v 0\nget v@replica 1\nget v@rdonly 1\n") ≡ codes "ok\nok\nok\nok\nok\nok\nok\nrefused T3 Ambiguous\nrefused F5 NoRow\nrefused F5 NoRow\nrefused F5 NoRow\nrefused F5 NoRow\nrefused T3 Ambiguous\nrefused F5 NoRow\nok\nrefused X1 BadLine\nok\nrefused F30 Exists\nrefused X1 BadLine\nrefused N1 Empty\nrefused F30 Exists\nrefused F24 NoWatcher\nok\nrefused F17 Copying\nrefused N9 BadRange\nrefused X1 BadLine\nrefused X1 BadLine\nok\nrefused F30 Exists\nrefused N6 BadType\nrefused N8 NoKeyspace\n{\"rules\":[{\"from_table\":\"a-b.v\",\"to_tables\":[\"a.v\"]},{\"from_table\":\"a-b.v@rdonly\",\"to_tables\":[\"a.v\"]},{\"from_table\":\"a-b.v@replica\",\"to_tables\":[\"a.v\"]},{\"from_table\":\"a.v@rdonly\",\"to_tables\":[\"a.v\"]},{\"from_table\":\"a.v@replica\",\"to_tables\":[\"a.v\"]},{\"from_table\":\"u\",\"to_tables\":[\"a-b.v\"]},{\"from_table\":\"v\",\"to_tables\":[\"a.v\"]},{\"from_table\":\"v@rdonly\",\"to_tables\":[\"a.v\"]},{\"from_table\":\"v@replica\",\"to_tables\":[\"a.v\"]}]}\n{\"denied\":[\"a-b.v\"],\"keyspaces\":[{\"name\":\"a\",\"shards\":[\"-\"],\"tables\":[\"t\",\"u\",\"v\"]},{\"name\":\"a-b\",\"shards\":[\"-\"],\"tables\":[\"t\",\"v\"]},{\"name\":\"b\",\"shards\":[\"-\"],\"tables\":[]}],\"rules\":[{\"from_table\":\"a-b.v\",\"to_tables\":[\"a.v\"]},{\"from_table\":\"a-b.v@rdonly\",\"to_tables\":[\"a.v\"]},{\"from_table\":\"a-b.v@replica\",\"to_tables\":[\"a.v\"]},{\"from_table\":\"a.v@rdonly\",\"to_tables\":[\"a.v\"]},{\"from_table\":\"a.v@replica\",\"to_tables\":[\"a.v\"]},{\"from_table\":\"u\",\"to_tables\":[\"a-b.v\"]},{\"from_table\":\"v\",\"to_tables\":[\"a.v\"]},{\"from_table\":\"v@rdonly\",\"to_tables\":[\"a.v\"]},{\"from_table\":\"v@replica\",\"to_tables\":[\"a.v\"]}],\"version\":2}\na a a-b v switched - way none forward running 1 copying back none\nrefused F7 NoWorkflow\nrefused F7 NoWorkflow\nnone\nnone\nnone\nnone\nnone\nnone\nnone\nnone\nnone\nnone\nnone\nnone\nrow d\nnone\nrow d\nnone\nrow d\nnone\nnone\nrow y\nnone\nrow y\nnone\nrow y\nrefused F3 Denied\nrefused F3 Denied\nnone\nnone\nnone\nnone\nrefused T3 Ambiguous\nrefused T3 Ambiguous\nrefused T3 Ambiguous\nrefused F3 Denied\nnone\nnone\nrow d\nnone\nnone\n"
 
 abbrev pub whole_057 : Type 0
 whole_057 = output (watchers_of (codes "commerce" ∷ codes "customer" ∷ [])) (codes "keyspace commerce\nkeyspace customer\ntable commerce u\ntable commerce v\ninsert commerce.v 1 c\nrules\nat commerce.u update 0 d\ncreate a commerce customer v\nadvance a forward 1 100\nswitch a all\ncreate _revers commerce customer u,v\nadvance a back 1 0\ncancel a\nat commerce.u append 2 a\nupdate u 3 y\ncancel a\nat customer.v@replica get 2\nshow a\nadvance a back 1 100\nbegin-reverse a primary\nstep a 0\nat commerce.v get 1\nstep a 1\nat commerce.v@rdonly get 0\ndelete v 1\nstep a 2\nupdate v 3 d\nstep a 6\nstep a 3\nat commerce.v append 1152921504606846976 c\ndelete v 0001\nget commerce.v@replica 3\nappend u 3 z\ninsert customer.v 2 x\nadvance a back 1 3\nreverse a primary\nrules\nat commerce.u insert 0 b\ndelete v@primary 0\nadvance a back 1 100\nshow a\nrule t@replica customer.u\nrule u@rdonly commerce.u\nrules\ndump\nshow a\nshow reverse\nshow _revers\nat commerce.u@primary get 0\nat commerce.u@primary get 1\nat commerce.u@replica get 0\nat commerce.u@replica get 1\nat commerce.u@rdonly get 0\nat commerce.u@rdonly get 1\nat commerce.v@primary get 0\nat commerce.v@primary get 1\nat commerce.v@replica get 0\nat commerce.v@replica get 1\nat commerce.v@rdonly get 0\nat commerce.v@rdonly get 1\nat customer.v@primary get 0\nat customer.v@primary get 1\nat customer.v@replica get 0\nat customer.v@replica get 1\nat customer.v@rdonly get 0\nat customer.v@rdonly get 1\nget t 1\nget t@replica 0\nget t@rdonly 0\nget u 0\nget u@replica 0\nget u@rdonly 1\nget v 1\nget v@replica 1\nget v@rdonly 0\n") ≡ codes "ok\nok\nok\nok\nok\n{\"rules\":[]}\nrefused F5 NoRow\nok\nevents 0 rows 1\nok\nrefused F8 TableInWorkflow\nevents 0 rows 0\nrefused F20 TrafficSwitched\nrefused F5 NoRow\nrefused F5 NoRow\nrefused F20 TrafficSwitched\nnone\na commerce customer v switched primary,replica,rdonly way none forward frozen 1 copied back running 1\nevents 0 rows 0\nok\nok\nrefused F3 Denied\nok\nnone\nrefused F3 Denied\nok\nrefused F3 Denied\nrefused F25 Stale\nok\nrefused F3 Denied\nrefused F3 Denied\nnone\nrefused F5 NoRow\nrefused F3 Denied\nrefused F26 Stopped\nrefused F13 UnderWay\n{\"rules\":[{\"from_table\":\"commerce.v\",\"to_tables\":[\"customer.v\"]},{\"from_table\":\"commerce.v@rdonly\",\"to_tables\":[\"customer.v\"]},{\"from_table\":\"commerce.v@replica\",\"to_tables\":[\"customer.v\"]},{\"from_table\":\"customer.v@rdonly\",\"to_tables\":[\"customer.v\"]},{\"from_table\":\"customer.v@replica\",\"to_tables\":[\"customer.v\"]},{\"from_table\":\"v\",\"to_tables\":[\"customer.v\"]},{\"from_table\":\"v@rdonly\",\"to_tables\":[\"customer.v\"]},{\"from_table\":\"v@replica\",\"to_tables\":[\"customer.v\"]}]}\nok\nrefused F3 Denied\nrefused F26 Stopped\na commerce customer v switched primary,replica,rdonly way back primary 4 forward frozen 1 copied back stopped 1\nok\nok\n{\"rules\":[{\"from_table\":\"commerce.v\",\"to_tables\":[\"customer.v\"]},{\"from_table\":\"commerce.v@rdonly\",\"to_tables\":[\"customer.v\"]},{\"from_table\":\"commerce.v@replica\",\"to_tables\":[\"customer.v\"]},{\"from_table\":\"customer.v@rdonly\",\"to_tables\":[\"customer.v\"]},{\"from_table\":\"customer.v@replica\",\"to_tables\":[\"customer.v\"]},{\"from_table\":\"t@replica\",\"to_tables\":[\"customer.u\"]},{\"from_table\":\"u@rdonly\",\"to_tables\":[\"commerce.u\"]},{\"from_table\":\"v\",\"to_tables\":[\"customer.v\"]},{\"from_table\":\"v@rdonly\",\"to_tables\":[\"customer.v\"]},{\"from_table\":\"v@replica\",\"to_tables\":[\"customer.v\"]}]}\n{\"denied\":[\"commerce.v\",\"customer.v\"],\"keyspaces\":[{\"name\":\"commerce\",\"shards\":[\"-\"],\"tables\":[\"u\",\"v\"]},{\"name\":\"customer\",\"shards\":[\"-\"],\"tables\":[\"v\"]}],\"rules\":[{\"from_table\":\"commerce.v\",\"to_tables\":[\"customer.v\"]},{\"from_table\":\"commerce.v@rdonly\",\"to_tables\":[\"customer.v\"]},{\"from_table\":\"commerce.v@replica\",\"to_tables\":[\"customer.v\"]},{\"from_table\":\"customer.v@rdonly\",\"to_tables\":[\"customer.v\"]},{\"from_table\":\"customer.v@replica\",\"to_tables\":[\"customer.v\"]},{\"from_table\":\"t@replica\",\"to_tables\":[\"customer.u\"]},{\"from_table\":\"u@rdonly\",\"to_tables\":[\"commerce.u\"]},{\"from_table\":\"v\",\"to_tables\":[\"customer.v\"]},{\"from_table\":\"v@rdonly\",\"to_tables\":[\"customer.v\"]},{\"from_table\":\"v@replica\",\"to_tables\":[\"customer.v\"]}],\"version\":2}\na commerce customer v switched primary,replica,rdonly way back primary 4 forward frozen 1 copied back stopped 1\nrefused F7 NoWorkflow\nrefused F7 NoWorkflow\nrow b\nnone\nrow b\nnone\nrow b\nnone\nrefused F3 Denied\nrefused F3 Denied\nnone\nrow c\nnone\nrow c\nrefused F3 Denied\nrefused F3 Denied\nnone\nrow c\nnone\nrow c\nrefused T2 NoTable\nrefused F2 NoTable\nrefused T2 NoTable\nrow b\nrow b\nnone\nrefused F3 Denied\nrow c\nnone\n"

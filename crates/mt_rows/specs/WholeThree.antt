@@ -24,7 +24,7 @@ abbrev pub whole_027 : Type 0
 whole_027 = output (watchers_of (codes "A" ∷ codes "a" ∷ codes "a_" ∷ codes "a-" ∷ [])) (codes "keyspace A\nkeyspace a\nkeyspace a_\nkeyspace a-\ntable a t\ntable A u\ntable A v\ntable a_ v\nat a.t append 0 c\ninsert u 2 y\nat a.t delete 4611686018427387904\ncreate mv A a- v\nswitch mv all\nshow mv\ncancel mv\ncreate mv a a_ t\ncreate mv a- a_ t,u\nadvance mv forward 0 2\nswitch mv primary\ninsert t@primary 1 a\nadvance mv back 0 0\nat A.v append 72057594037927936 d\nswitch mv rdonly,primary\nreverse mv replica,rdonly\ncomplete mv\nat a.t insert 1 d\ncreate mv a A t,t\ncreate mv a- a u\ninsert a_.t 1 z\ncreate mv a_ a v\nswitch mv all\nat a_.t@primary update 2 y\nreverse mv all\ndelete u 0\nat a.t@rdonly append 72057594037927935 y\nswitch mv all\nswitch mv -\nreverse mv primary,rdonly\nshow mv\nrules\ndump\nshow mv\nat A.u@primary get 1\nat A.u@primary get 2\nat A.u@replica get 1\nat A.u@replica get 2\nat A.u@rdonly get 1\nat A.u@rdonly get 2\nat A.v@primary get 1\nat A.v@primary get 2\nat A.v@replica get 1\nat A.v@replica get 2\nat A.v@rdonly get 1\nat A.v@rdonly get 2\nat a.t@primary get 1\nat a.t@primary get 2\nat a.t@replica get 1\nat a.t@replica get 2\nat a.t@rdonly get 1\nat a.t@rdonly get 2\nat a_.t@primary get 1\nat a_.t@primary get 2\nat a_.t@replica get 1\nat a_.t@replica get 2\nat a_.t@rdonly get 1\nat a_.t@rdonly get 2\nat a_.v@primary get 1\nat a_.v@primary get 2\nat a_.v@replica get 1\nat a_.v@replica get 2\nat a_.v@rdonly get 1\nat a_.v@rdonly get 2\nget t 1\nget t@replica 2\nget t@rdonly 2\nget u 1\nget u@replica 1\nget u@rdonly 2\nget v 2\nget v@replica 1\nget v@rdonly 1\n") ≡ codes "ok\nok\nok\nok\nok\nok\nok\nok\nrefused F5 NoRow\nok\nrefused F5 NoRow\nok\nrefused F17 Copying\nmv A a- v switched - way none forward running 1 copying back none\nok\nok\nrefused F6 WorkflowExists\nevents 0 rows 0\nok\nok\nevents 0 rows 0\nrefused F5 NoRow\nok\nok\nrefused F21 NotAllSwitched\nrefused F3 Denied\nrefused N4 Repeated\nrefused F6 WorkflowExists\nrefused F4 RowExists\nrefused F6 WorkflowExists\nok\nrefused F5 NoRow\nok\nrefused F5 NoRow\nrefused X1 BadLine\nok\nrefused F15 NothingToSwitch\nok\nmv a a_ t switched replica way none forward running 1 copied back none\n{\"rules\":[{\"from_table\":\"a.t@rdonly\",\"to_tables\":[\"a.t\"]},{\"from_table\":\"a.t@replica\",\"to_tables\":[\"a_.t\"]},{\"from_table\":\"a_.t\",\"to_tables\":[\"a.t\"]},{\"from_table\":\"a_.t@rdonly\",\"to_tables\":[\"a.t\"]},{\"from_table\":\"a_.t@replica\",\"to_tables\":[\"a_.t\"]},{\"from_table\":\"t\",\"to_tables\":[\"a.t\"]},{\"from_table\":\"t@rdonly\",\"to_tables\":[\"a.t\"]},{\"from_table\":\"t@replica\",\"to_tables\":[\"a_.t\"]}]}\n{\"denied\":[\"a_.t\"],\"keyspaces\":[{\"name\":\"A\",\"shards\":[\"-\"],\"tables\":[\"u\",\"v\"]},{\"name\":\"a\",\"shards\":[\"-\"],\"tables\":[\"t\"]},{\"name\":\"a-\",\"shards\":[\"-\"],\"tables\":[]},{\"name\":\"a_\",\"shards\":[\"-\"],\"tables\":[\"t\",\"v\"]}],\"rules\":[{\"from_table\":\"a.t@rdonly\",\"to_tables\":[\"a.t\"]},{\"from_table\":\"a.t@replica\",\"to_tables\":[\"a_.t\"]},{\"from_table\":\"a_.t\",\"to_tables\":[\"a.t\"]},{\"from_table\":\"a_.t@rdonly\",\"to_tables\":[\"a.t\"]},{\"from_table\":\"a_.t@replica\",\"to_tables\":[\"a_.t\"]},{\"from_table\":\"t\",\"to_tables\":[\"a.t\"]},{\"from_table\":\"t@rdonly\",\"to_tables\":[\"a.t\"]},{\"from_table\":\"t@replica\",\"to_tables\":[\"a_.t\"]}],\"version\":2}\nmv a a_ t switched replica way none forward running 1 copied back none\nnone\nrow y\nnone\nrow y\nnone\nrow y\nnone\nnone\nnone\nnone\nnone\nnone\nrow a\nnone\nrow a\nnone\nrow a\nnone\nrefused F3 Denied\nrefused F3 Denied\nrow a\nnone\nrow a\nnone\nnone\nnone\nnone\nnone\nnone\nnone\nrow a\nnone\nnone\nnone\nnone\nrow y\nrefused T3 Ambiguous\nrefused T3 Ambiguous\nrefused T3 Ambiguous\n"
 
 abbrev pub whole_028 : Type 0
-whole_028 = output (watchers_of (codes "a" ∷ codes "a_" ∷ codes "a-" ∷ [])) (codes "keyspace A\nkeyspace a_\nkeyspace a-\ntable A corder\nat A.corder update 2 c\ndump\ndelete A.corder 4611686018427387904\nat A.corder get 2\ncreate mv A a_ corder\nadvance mv forward 0 100\nbegin-switch mv replica,rdonly,primary\nadvance m back/-/- 0 1\nappend A.corder 1152921504606846976 a\nstep mv 0\nat a_.corder insert 1 q\nundo mv 1\nat a_.corder append 18446744073709551615 r\nadvance mv forward 0 1\ndump\nbegin-switch mv rdonly,replica\nstep mv 0\nat a_.corder delete 0\nbegin-reverse mv replica\nstep mv 0\nget corder@primary 18374686479671623680\nbegin-switch mv all\nstep mv 0\nstep mv 1\nundo mv 2\nundo mv 1\nadvance mv forward 0 65535\nswitch mv all,primary\nbegin-switch mv primary,replica\nstep mv 0\nat a_.corder insert 18446744073709551615 p\nstep mv 1\nat A.corder delete 0\nrules\nat A.corder insert 2 z\nrule corder@replica A.corder\ninsert corder 3 z\ncomplete mv\nrules\nat A.corder update 18446744073709551615 y\nbegin-switch m_reverse master\nat A.corder@primary get 1\nstep mv 2\nstep mv 2\nrules\ndump\nshow mv\nat A.corder@primary get 1\nat A.corder@primary get 2\nat A.corder@primary get 3\nat A.corder@replica get 1\nat A.corder@replica get 2\nat A.corder@replica get 3\nat A.corder@rdonly get 1\nat A.corder@rdonly get 2\nat A.corder@rdonly get 3\nat a_.corder@primary get 1\nat a_.corder@primary get 2\nat a_.corder@primary get 3\nat a_.corder@replica get 1\nat a_.corder@replica get 2\nat a_.corder@replica get 3\nat a_.corder@rdonly get 1\nat a_.corder@rdonly get 2\nat a_.corder@rdonly get 3\nget corder 1\nget corder@replica 1\nget corder@rdonly 2\n") ≡ codes "ok\nok\nok\nok\nrefused F5 NoRow\n{\"denied\":[],\"keyspaces\":[{\"name\":\"A\",\"shards\":[\"-\"],\"tables\":[\"corder\"]},{\"name\":\"a-\",\"shards\":[\"-\"],\"tables\":[]},{\"name\":\"a_\",\"shards\":[\"-\"],\"tables\":[]}],\"rules\":[],\"version\":2}\nrefused F5 NoRow\nnone\nok\nevents 0 rows 0\nok\nrefused X1 BadLine\nrefused F5 NoRow\nok\nrefused F3 Denied\nok\nrefused F3 Denied\nevents 0 rows 0\n{\"denied\":[\"a_.corder\"],\"keyspaces\":[{\"name\":\"A\",\"shards\":[\"-\"],\"tables\":[\"corder\"]},{\"name\":\"a-\",\"shards\":[\"-\"],\"tables\":[]},{\"name\":\"a_\",\"shards\":[\"-\"],\"tables\":[\"corder\"]}],\"rules\":[{\"from_table\":\"A.corder@rdonly\",\"to_tables\":[\"A.corder\"]},{\"from_table\":\"A.corder@replica\",\"to_tables\":[\"A.corder\"]},{\"from_table\":\"a_.corder\",\"to_tables\":[\"A.corder\"]},{\"from_table\":\"a_.corder@rdonly\",\"to_tables\":[\"A.corder\"]},{\"from_table\":\"a_.corder@replica\",\"to_tables\":[\"A.corder\"]},{\"from_table\":\"corder\",\"to_tables\":[\"A.corder\"]},{\"from_table\":\"corder@rdonly\",\"to_tables\":[\"A.corder\"]},{\"from_table\":\"corder@replica\",\"to_tables\":[\"A.corder\"]}],\"version\":2}\nok\nok\nrefused F3 Denied\nok\nok\nnone\nok\nok\nok\nok\nok\nevents 0 rows 0\nrefused N6 BadType\nok\nok\nrefused F3 Denied\nok\nrefused F5 NoRow\n{\"rules\":[{\"from_table\":\"A.corder@rdonly\",\"to_tables\":[\"a_.corder\"]},{\"from_table\":\"A.corder@replica\",\"to_tables\":[\"a_.corder\"]},{\"from_table\":\"a_.corder\",\"to_tables\":[\"A.corder\"]},{\"from_table\":\"a_.corder@rdonly\",\"to_tables\":[\"a_.corder\"]},{\"from_table\":\"a_.corder@replica\",\"to_tables\":[\"a_.corder\"]},{\"from_table\":\"corder\",\"to_tables\":[\"A.corder\"]},{\"from_table\":\"corder@rdonly\",\"to_tables\":[\"a_.corder\"]},{\"from_table\":\"corder@replica\",\"to_tables\":[\"a_.corder\"]}]}\nok\nrefused F22 RuleOwned\nok\nrefused F13 UnderWay\n{\"rules\":[{\"from_table\":\"A.corder@rdonly\",\"to_tables\":[\"a_.corder\"]},{\"from_table\":\"A.corder@replica\",\"to_tables\":[\"a_.corder\"]},{\"from_table\":\"a_.corder\",\"to_tables\":[\"A.corder\"]},{\"from_table\":\"a_.corder@rdonly\",\"to_tables\":[\"a_.corder\"]},{\"from_table\":\"a_.corder@replica\",\"to_tables\":[\"a_.corder\"]},{\"from_table\":\"corder\",\"to_tables\":[\"A.corder\"]},{\"from_table\":\"corder@rdonly\",\"to_tables\":[\"a_.corder\"]},{\"from_table\":\"corder@replica\",\"to_tables\":[\"a_.corder\"]}]}\nrefused F5 NoRow\nrefused N5 ReservedSuffix\nnone\nrefused F24 NoWatcher\nrefused F24 NoWatcher\n{\"rules\":[{\"from_table\":\"A.corder@rdonly\",\"to_tables\":[\"a_.corder\"]},{\"from_table\":\"A.corder@replica\",\"to_tables\":[\"a_.corder\"]},{\"from_table\":\"a_.corder\",\"to_tables\":[\"A.corder\"]},{\"from_table\":\"a_.corder@rdonly\",\"to_tables\":[\"a_.corder\"]},{\"from_table\":\"a_.corder@replica\",\"to_tables\":[\"a_.corder\"]},{\"from_table\":\"corder\",\"to_tables\":[\"A.corder\"]},{\"from_table\":\"corder@rdonly\",\"to_tables\":[\"a_.corder\"]},{\"from_table\":\"corder@replica\",\"to_tables\":[\"a_.corder\"]}]}\n{\"denied\":[\"A.corder\",\"a_.corder\"],\"keyspaces\":[{\"name\":\"A\",\"shards\":[\"-\"],\"tables\":[\"corder\"]},{\"name\":\"a-\",\"shards\":[\"-\"],\"tables\":[]},{\"name\":\"a_\",\"shards\":[\"-\"],\"tables\":[\"corder\"]}],\"rules\":[{\"from_table\":\"A.corder@rdonly\",\"to_tables\":[\"a_.corder\"]},{\"from_table\":\"A.corder@replica\",\"to_tables\":[\"a_.corder\"]},{\"from_table\":\"a_.corder\",\"to_tables\":[\"A.corder\"]},{\"from_table\":\"a_.corder@rdonly\",\"to_tables\":[\"a_.corder\"]},{\"from_table\":\"a_.corder@replica\",\"to_tables\":[\"a_.corder\"]},{\"from_table\":\"corder\",\"to_tables\":[\"A.corder\"]},{\"from_table\":\"corder@rdonly\",\"to_tables\":[\"a_.corder\"]},{\"from_table\":\"corder@replica\",\"to_tables\":[\"a_.corder\"]}],\"version\":2}\nmv A a_ corder switched rdonly way forward primary,replica 2 forward running 0 copied back none\nnone\nrow z\nrow z\nnone\nrow z\nrow z\nnone\nrow z\nrow z\nrefused F3 Denied\nrefused F3 Denied\nrefused F3 Denied\nnone\nnone\nnone\nnone\nnone\nnone\nnone\nnone\nnone\n"
+whole_028 = output (watchers_of (codes "a" ∷ codes "a_" ∷ codes "a-" ∷ [])) (codes "keyspace A\nkeyspace a_\nkeyspace a-\ntable A corder\nat A.corder update 2 c\ndump\ndelete A.corder 4611686018427387904\nat A.corder get 2\ncreate mv A a_ corder\nadvance mv forward 0 100\nbegin-switch mv replica,rdonly,primary\nadvance m back/-/- 0 1\nappend A.corder 1152921504606846976 a\nstep mv 0\nat a_.corder insert 1 q\nundo mv 1\nat a_.corder append 18446744073709551615 r\nadvance mv forward 0 1\ndump\nbegin-switch mv rdonly,replica\nstep mv 0\nat a_.corder delete 0\nbegin-reverse mv replica\nstep mv 0\nget corder@primary 18374686479671623680\nbegin-switch mv all\nstep mv 0\nstep mv 1\nundo mv 2\nundo mv 1\nadvance mv forward 0 65535\nswitch mv all,primary\nbegin-switch mv primary,replica\nstep mv 0\nat a_.corder insert 18446744073709551615 p\nstep mv 1\nat A.corder delete 0\nrules\nat A.corder insert 2 z\nrule corder@replica A.corder\ninsert corder 3 z\ncomplete mv\nrules\nat A.corder update 18446744073709551615 y\nbegin-switch m_reverse master\nat A.corder@primary get 1\nstep mv 2\nstep mv 2\nrules\ndump\nshow mv\nat A.corder@primary get 1\nat A.corder@primary get 2\nat A.corder@primary get 3\nat A.corder@replica get 1\nat A.corder@replica get 2\nat A.corder@replica get 3\nat A.corder@rdonly get 1\nat A.corder@rdonly get 2\nat A.corder@rdonly get 3\nat a_.corder@primary get 1\nat a_.corder@primary get 2\nat a_.corder@primary get 3\nat a_.corder@replica get 1\nat a_.corder@replica get 2\nat a_.corder@replica get 3\nat a_.corder@rdonly get 1\nat a_.corder@rdonly get 2\nat a_.corder@rdonly get 3\nget corder 1\nget corder@replica 1\nget corder@rdonly 2\n") ≡ codes "ok\nok\nok\nok\nrefused F5 NoRow\n{\"denied\":[],\"keyspaces\":[{\"name\":\"A\",\"shards\":[\"-\"],\"tables\":[\"corder\"]},{\"name\":\"a-\",\"shards\":[\"-\"],\"tables\":[]},{\"name\":\"a_\",\"shards\":[\"-\"],\"tables\":[]}],\"rules\":[],\"version\":2}\nrefused F5 NoRow\nnone\nok\nevents 0 rows 0\nok\nrefused N9 BadRange\nrefused F5 NoRow\nok\nrefused F3 Denied\nok\nrefused F3 Denied\nevents 0 rows 0\n{\"denied\":[\"a_.corder\"],\"keyspaces\":[{\"name\":\"A\",\"shards\":[\"-\"],\"tables\":[\"corder\"]},{\"name\":\"a-\",\"shards\":[\"-\"],\"tables\":[]},{\"name\":\"a_\",\"shards\":[\"-\"],\"tables\":[\"corder\"]}],\"rules\":[{\"from_table\":\"A.corder@rdonly\",\"to_tables\":[\"A.corder\"]},{\"from_table\":\"A.corder@replica\",\"to_tables\":[\"A.corder\"]},{\"from_table\":\"a_.corder\",\"to_tables\":[\"A.corder\"]},{\"from_table\":\"a_.corder@rdonly\",\"to_tables\":[\"A.corder\"]},{\"from_table\":\"a_.corder@replica\",\"to_tables\":[\"A.corder\"]},{\"from_table\":\"corder\",\"to_tables\":[\"A.corder\"]},{\"from_table\":\"corder@rdonly\",\"to_tables\":[\"A.corder\"]},{\"from_table\":\"corder@replica\",\"to_tables\":[\"A.corder\"]}],\"version\":2}\nok\nok\nrefused F3 Denied\nok\nok\nnone\nok\nok\nok\nok\nok\nevents 0 rows 0\nrefused N6 BadType\nok\nok\nrefused F3 Denied\nok\nrefused F5 NoRow\n{\"rules\":[{\"from_table\":\"A.corder@rdonly\",\"to_tables\":[\"a_.corder\"]},{\"from_table\":\"A.corder@replica\",\"to_tables\":[\"a_.corder\"]},{\"from_table\":\"a_.corder\",\"to_tables\":[\"A.corder\"]},{\"from_table\":\"a_.corder@rdonly\",\"to_tables\":[\"a_.corder\"]},{\"from_table\":\"a_.corder@replica\",\"to_tables\":[\"a_.corder\"]},{\"from_table\":\"corder\",\"to_tables\":[\"A.corder\"]},{\"from_table\":\"corder@rdonly\",\"to_tables\":[\"a_.corder\"]},{\"from_table\":\"corder@replica\",\"to_tables\":[\"a_.corder\"]}]}\nok\nrefused F22 RuleOwned\nok\nrefused F13 UnderWay\n{\"rules\":[{\"from_table\":\"A.corder@rdonly\",\"to_tables\":[\"a_.corder\"]},{\"from_table\":\"A.corder@replica\",\"to_tables\":[\"a_.corder\"]},{\"from_table\":\"a_.corder\",\"to_tables\":[\"A.corder\"]},{\"from_table\":\"a_.corder@rdonly\",\"to_tables\":[\"a_.corder\"]},{\"from_table\":\"a_.corder@replica\",\"to_tables\":[\"a_.corder\"]},{\"from_table\":\"corder\",\"to_tables\":[\"A.corder\"]},{\"from_table\":\"corder@rdonly\",\"to_tables\":[\"a_.corder\"]},{\"from_table\":\"corder@replica\",\"to_tables\":[\"a_.corder\"]}]}\nrefused F5 NoRow\nrefused N5 ReservedSuffix\nnone\nrefused F24 NoWatcher\nrefused F24 NoWatcher\n{\"rules\":[{\"from_table\":\"A.corder@rdonly\",\"to_tables\":[\"a_.corder\"]},{\"from_table\":\"A.corder@replica\",\"to_tables\":[\"a_.corder\"]},{\"from_table\":\"a_.corder\",\"to_tables\":[\"A.corder\"]},{\"from_table\":\"a_.corder@rdonly\",\"to_tables\":[\"a_.corder\"]},{\"from_table\":\"a_.corder@replica\",\"to_tables\":[\"a_.corder\"]},{\"from_table\":\"corder\",\"to_tables\":[\"A.corder\"]},{\"from_table\":\"corder@rdonly\",\"to_tables\":[\"a_.corder\"]},{\"from_table\":\"corder@replica\",\"to_tables\":[\"a_.corder\"]}]}\n{\"denied\":[\"A.corder\",\"a_.corder\"],\"keyspaces\":[{\"name\":\"A\",\"shards\":[\"-\"],\"tables\":[\"corder\"]},{\"name\":\"a-\",\"shards\":[\"-\"],\"tables\":[]},{\"name\":\"a_\",\"shards\":[\"-\"],\"tables\":[\"corder\"]}],\"rules\":[{\"from_table\":\"A.corder@rdonly\",\"to_tables\":[\"a_.corder\"]},{\"from_table\":\"A.corder@replica\",\"to_tables\":[\"a_.corder\"]},{\"from_table\":\"a_.corder\",\"to_tables\":[\"A.corder\"]},{\"from_table\":\"a_.corder@rdonly\",\"to_tables\":[\"a_.corder\"]},{\"from_table\":\"a_.corder@replica\",\"to_tables\":[\"a_.corder\"]},{\"from_table\":\"corder\",\"to_tables\":[\"A.corder\"]},{\"from_table\":\"corder@rdonly\",\"to_tables\":[\"a_.corder\"]},{\"from_table\":\"corder@replica\",\"to_tables\":[\"a_.corder\"]}],\"version\":2}\nmv A a_ corder switched rdonly way forward primary,replica 2 forward running 0 copied back none\nnone\nrow z\nrow z\nnone\nrow z\nrow z\nnone\nrow z\nrow z\nrefused F3 Denied\nrefused F3 Denied\nrefused F3 Denied\nnone\nnone\nnone\nnone\nnone\nnone\nnone\nnone\nnone\n"
 
 abbrev pub whole_029 : Type 0
 whole_029 = output (watchers_of (codes "commerce" ∷ codes "customer" ∷ [])) (codes "keyspace commerce\nkeyspace customer\ntable commerce corder\nat commerce.corder@primary insert 0 vvvvvvvvvvvvvvvvvvvvvvvvvvvvvvvvvvvvvvvvvvvvvvvvvvvvvvvvvvvvvvvv\nat commerce.corder@primary delete 3\nat commerce.corder delete 9223372036854775808\nappend commerce.corder 3 y\nat commerce.corder delete 0001\nat commerce.corder insert 1 -\nupdate customer.corder@primary 2 c\nat commerce.corder@primary insert 1 b\ncreate w commerce customer corder\nat commerce.corder@primary append 0 z\nadvance w forward 2 100\nswitch w all\nswitch w all\nrules\ncreate w commerce commerce -\nbegin-reverse w rdonly,primary,replica\nstep w 0\nat customer.corder delete 1\nadvance w back 2 1\nrule commerce.corder nosuch.nosuch\ninsert corder 2 x\nreverse w replica\ntable customer corder\nadvance w back 3 3\nappend corder 0 a\nrules\ndump\nshow w\nshow WWWWWWWWWWWWWWWWWWWWWWWWWWWWWWWWWWWWWWWWWWWWWWWWWWWWWWWWWWWWWWWW\nat commerce.corder@primary get 0\nat commerce.corder@primary get 1\nat commerce.corder@primary get 2\nat commerce.corder@replica get 0\nat commerce.corder@replica get 1\nat commerce.corder@replica get 2\nat commerce.corder@rdonly get 0\nat commerce.corder@rdonly get 1\nat commerce.corder@rdonly get 2\nat customer.corder@primary get 0\nat customer.corder@primary get 1\nat customer.corder@primary get 2\nat customer.corder@replica get 0\nat customer.corder@replica get 1\nat customer.corder@replica get 2\nat customer.corder@rdonly get 0\nat customer.corder@rdonly get 1\nat customer.corder@rdonly get 2\nget corder 2\nget corder@replica 2\nget corder@rdonly 2\n\n") ≡ codes "ok\nok\nok\nok\nrefused F5 NoRow\nrefused F5 NoRow\nrefused F5 NoRow\nrefused F5 NoRow\nok\nrefused F2 NoTable\nrefused F4 RowExists\nok\nrefused F29 TooLong\nevents 0 rows 2\nok\nrefused F15 NothingToSwitch\n{\"rules\":[{\"from_table\":\"commerce.corder\",\"to_tables\":[\"customer.corder\"]},{\"from_table\":\"commerce.corder@rdonly\",\"to_tables\":[\"customer.corder\"]},{\"from_table\":\"commerce.corder@replica\",\"to_tables\":[\"customer.corder\"]},{\"from_table\":\"corder\",\"to_tables\":[\"customer.corder\"]},{\"from_table\":\"corder@rdonly\",\"to_tables\":[\"customer.corder\"]},{\"from_table\":\"corder@replica\",\"to_tables\":[\"customer.corder\"]},{\"from_table\":\"customer.corder@rdonly\",\"to_tables\":[\"customer.corder\"]},{\"from_table\":\"customer.corder@replica\",\"to_tables\":[\"customer.corder\"]}]}\nrefused F6 WorkflowExists\nok\nok\nok\nevents 1 rows 0\nrefused F22 RuleOwned\nok\nrefused F13 UnderWay\nrefused F30 Exists\nevents 1 rows 0\nrefused F29 TooLong\n{\"rules\":[{\"from_table\":\"commerce.corder\",\"to_tables\":[\"customer.corder\"]},{\"from_table\":\"commerce.corder@rdonly\",\"to_tables\":[\"commerce.corder\"]},{\"from_table\":\"commerce.corder@replica\",\"to_tables\":[\"commerce.corder\"]},{\"from_table\":\"corder\",\"to_tables\":[\"customer.corder\"]},{\"from_table\":\"corder@rdonly\",\"to_tables\":[\"commerce.corder\"]},{\"from_table\":\"corder@replica\",\"to_tables\":[\"commerce.corder\"]},{\"from_table\":\"customer.corder@rdonly\",\"to_tables\":[\"commerce.corder\"]},{\"from_table\":\"customer.corder@replica\",\"to_tables\":[\"commerce.corder\"]}]}\n{\"denied\":[\"commerce.corder\"],\"keyspaces\":[{\"name\":\"commerce\",\"shards\":[\"-\"],\"tables\":[\"corder\"]},{\"name\":\"customer\",\"shards\":[\"-\"],\"tables\":[\"corder\"]}],\"rules\":[{\"from_table\":\"commerce.corder\",\"to_tables\":[\"customer.corder\"]},{\"from_table\":\"commerce.corder@rdonly\",\"to_tables\":[\"commerce.corder\"]},{\"from_table\":\"commerce.corder@replica\",\"to_tables\":[\"commerce.corder\"]},{\"from_table\":\"corder\",\"to_tables\":[\"customer.corder\"]},{\"from_table\":\"corder@rdonly\",\"to_tables\":[\"commerce.corder\"]},{\"from_table\":\"corder@replica\",\"to_tables\":[\"commerce.corder\"]},{\"from_table\":\"customer.corder@rdonly\",\"to_tables\":[\"commerce.corder\"]},{\"from_table\":\"customer.corder@replica\",\"to_tables\":[\"commerce.corder\"]}],\"version\":2}\nw commerce customer corder switched primary,replica,rdonly way back primary,replica,rdonly 1 forward frozen 2 copied back running 4\nrefused F7 NoWorkflow\nrefused F3 Denied\nrefused F3 Denied\nrefused F3 Denied\nrow vvvvvvvvvvvvvvvvvvvvvvvvvvvvvvvvvvvvvvvvvvvvvvvvvvvvvvvvvvvvvvvv\nnone\nrow x\nrow vvvvvvvvvvvvvvvvvvvvvvvvvvvvvvvvvvvvvvvvvvvvvvvvvvvvvvvvvvvvvvvv\nnone\nrow x\nrow vvvvvvvvvvvvvvvvvvvvvvvvvvvvvvvvvvvvvvvvvvvvvvvvvvvvvvvvvvvvvvvv\nnone\nrow x\nrow vvvvvvvvvvvvvvvvvvvvvvvvvvvvvvvvvvvvvvvvvvvvvvvvvvvvvvvvvvvvvvvv\nnone\nrow x\nrow vvvvvvvvvvvvvvvvvvvvvvvvvvvvvvvvvvvvvvvvvvvvvvvvvvvvvvvvvvvvvvvv\nnone\nrow x\nrow x\nrow x\nrow x\n"

@@ -30,4 +30,4 @@ abbrev pub whole_019 : Type 0
 whole_019 = output (watchers_of (codes "A" ∷ codes "a-" ∷ [])) (codes "keyspace a\nkeyspace a_\nkeyspace a-\ntable A corder\ninsert corder 18374686479671623680 d\nappend corder@master 1 b\nat a-.t.u insert 4611686018427387904 a\nappend corder 1 a\nupdate corder 1152921504606846976 c\ninsert corder 18374686479671623680 b\ninsert A.corder@primary 1 z\nat a_.corder insert 3 c\nadvance mv forward 0 100\nget a.corder@replica 2\nbegin-switch mv primary\nstep mv 4\nadvance mv x 0 100\nswitch mv rdonly,replica\nundo mv 8\nswitch mv all\ndump\nadvance mv forward 0 100\nbegin-switch mv all\nstep mv 0\ncomplete mv\nrules\ncreate mv a a_ corder\nreverse mv primary,replica\nrule corder@replica a.corder\nbegin-switch mv all\nstep _reverse 7\nadvance mv back 0 100\nat a-.corder insert 1 y\ndump\nreverse mv all\nbegin-reverse mv rdonly\ncreate mv a_ a- corder\nbegin-reverse mv all\nbegin-reverse mv replica\nrule a_.corder@replica a_.corder\ntable a_ corder\ncreate mv a_ a- corder\nrule corder@replica -\ncreate mv a_ a- corder\nbegin-switch mv all\nstep mv 3\nadvance mv forward 0 2\nbegin-switch mv rdonly\nstep mv 0\nat a_.corder@rdonly get 0\nrules\ndump\nshow mv\nat a-.corder@primary get 1\nat a-.corder@replica get 1\nat a-.corder@rdonly get 1\nat a_.corder@primary get 1\nat a_.corder@replica get 1\nat a_.corder@rdonly get 1\nget corder 1\nget corder@replica 1\nget corder@rdonly 1\n") ≡ codes "ok\nok\nok\nrefused F1 NoKeyspace\nrefused T2 NoTable\nrefused N6 BadType\nrefused N3 BadByte\nrefused T2 NoTable\nrefused T2 NoTable\nrefused T2 NoTable\nrefused F1 NoKeyspace\nrefused F2 NoTable\nrefused F7 NoWorkflow\nrefused F2 NoTable\nrefused F7 NoWorkflow\nrefused F7 NoWorkflow\nrefused X1 BadLine\nrefused F7 NoWorkflow\nrefused F7 NoWorkflow\nrefused F7 NoWorkflow\n{\"denied\":[],\"keyspaces\":[{\"name\":\"a\",\"shards\":[\"-\"],\"tables\":[]},{\"name\":\"a-\",\"shards\":[\"-\"],\"tables\":[]},{\"name\":\"a_\",\"shards\":[\"-\"],\"tables\":[]}],\"rules\":[],\"version\":2}\nrefused F7 NoWorkflow\nrefused F7 NoWorkflow\nrefused F7 NoWorkflow\nrefused F7 NoWorkflow\n{\"rules\":[]}\nrefused F2 NoTable\nrefused F7 NoWorkflow\nok\nrefused F7 NoWorkflow\nrefused N5 ReservedSuffix\nrefused F7 NoWorkflow\nrefused F2 NoTable\n{\"denied\":[],\"keyspaces\":[{\"name\":\"a\",\"shards\":[\"-\"],\"tables\":[]},{\"name\":\"a-\",\"shards\":[\"-\"],\"tables\":[]},{\"name\":\"a_\",\"shards\":[\"-\"],\"tables\":[]}],\"rules\":[{\"from_table\":\"corder@replica\",\"to_tables\":[\"a.corder\"]}],\"version\":2}\nrefused F7 NoWorkflow\nrefused F7 NoWorkflow\nrefused F2 NoTable\nrefused F7 NoWorkflow\nrefused F7 NoWorkflow\nok\nok\nrefused F9 RuleConflict\nok\nok\nrefused F17 Copying\nrefused F14 NothingUnderWay\nevents 0 rows 0\nok\nok\nnone\n{\"rules\":[{\"from_table\":\"a-.corder\",\"to_tables\":[\"a_.corder\"]},{\"from_table\":\"a-.corder@rdonly\",\"to_tables\":[\"a-.corder\"]},{\"from_table\":\"a-.corder@replica\",\"to_tables\":[\"a_.corder\"]},{\"from_table\":\"a_.corder@rdonly\",\"to_tables\":[\"a-.corder\"]},{\"from_table\":\"a_.corder@replica\",\"to_tables\":[\"a_.corder\"]},{\"from_table\":\"corder\",\"to_tables\":[\"a_.corder\"]},{\"from_table\":\"corder@rdonly\",\"to_tables\":[\"a-.corder\"]},{\"from_table\":\"corder@replica\",\"to_tables\":[\"a_.corder\"]}]}\n{\"denied\":[\"a-.corder\"],\"keyspaces\":[{\"name\":\"a\",\"shards\":[\"-\"],\"tables\":[]},{\"name\":\"a-\",\"shards\":[\"-\"],\"tables\":[\"corder\"]},{\"name\":\"a_\",\"shards\":[\"-\"],\"tables\":[\"corder\"]}],\"rules\":[{\"from_table\":\"a-.corder\",\"to_tables\":[\"a_.corder\"]},{\"from_table\":\"a-.corder@rdonly\",\"to_tables\":[\"a-.corder\"]},{\"from_table\":\"a-.corder@replica\",\"to_tables\":[\"a_.corder\"]},{\"from_table\":\"a_.corder@rdonly\",\"to_tables\":[\"a-.corder\"]},{\"from_table\":\"a_.corder@replica\",\"to_tables\":[\"a_.corder\"]},{\"from_table\":\"corder\",\"to_tables\":[\"a_.corder\"]},{\"from_table\":\"corder@rdonly\",\"to_tables\":[\"a-.corder\"]},{\"from_table\":\"corder@replica\",\"to_tables\":[\"a_.corder\"]}],\"version\":2}\nmv a_ a- corder switched rdonly way none forward running 0 copied back none\nrefused F3 Denied\nnone\nnone\nnone\nnone\nnone\nnone\nnone\nnone\n"
 
 abbrev pub whole_020 : Type 0
-whole_020 = output (watchers_of (codes "A" ∷ codes "a" ∷ codes "a_" ∷ codes "a-" ∷ [])) (codes "keyspace A\nkeyspace a\nkeyspace a_\nkeyspace a-\ntable A corder\ntable a_ corder\nat A.corder@primary append 1 a\ncreate _revers A a- corder\nadvance _revers forward 0 2\nbegin-switch _revers -\nundo _revers 6\nshow _revers\nbegin-switch _revers all\nstep _revers 0\ncreate $ a a- corder\nundo _revers 1\ncancel _revers\ncreate reverse A a corder\nadvance reverse forward/- 0 2\nadvance reverse forward 0 100\nswitch reverse all\nswitch reverse rdonly\nbegin-reverse reverse all\nstep reverse 0\nshow reverse\ncomplete reverse\nget corder 1\nat A.corder insert 72057594037927935 d\nstep reverse 1\nat A.corder get 0\nca\tncel _revers\nstep reverse 2\nat A.corder@primary update 3 d\nadvance reverse back 0 2\nstep reverse 3\nstep reverse 4\nappend corder 3 a\nbegin-reverse reverse rdonly\nget A.corder 1\nstep reverse 5\nstep reverse 6\nat A.corder@replica get 2\nat a-.corder@replica get 0001\nstep reverse 7\nat A.corder delete 1\nstep reverse 8\ncancel reverse\ninsert corder 2 y\nrules\ndump\nshow a\nshow reverse\nshow _revers\nat A.corder@primary get 1\nat A.corder@replica get 1\nat A.corder@rdonly get 1\nat a.corder@primary get 1\nat a.corder@replica get 1\nat a.corder@rdonly get 1\nat a_.corder@primary get 1\nat a_.corder@replica get 1\nat a_.corder@rdonly get 1\nget corder 1\nget corder@replica 1\nget corder@rdonly 1\n") ≡ codes "ok\nok\nok\nok\nok\nok\nrefused F5 NoRow\nok\nevents 0 rows 0\nrefused F15 NothingToSwitch\nrefused F14 NothingUnderWay\n_revers A a- corder switched - way none forward running 0 copied back none\nok\nok\nrefused N3 BadByte\nok\nok\nok\nrefused X1 BadLine\nevents 0 rows 0\nok\nrefused F15 NothingToSwitch\nok\nok\nreverse A a corder switched primary,replica,rdonly way back primary,replica,rdonly 1 forward frozen 0 copied back running 0\nrefused F13 UnderWay\nnone\nrefused F3 Denied\nok\nrefused F3 Denied\nrefused X1 BadLine\nok\nrefused F3 Denied\nevents 0 rows 0\nok\nok\nrefused F3 Denied\nrefused F13 UnderWay\nrefused F3 Denied\nok\nok\nnone\nrefused F2 NoTable\nok\nrefused F3 Denied\nok\nrefused F13 UnderWay\nrefused F3 Denied\n{\"rules\":[{\"from_table\":\"A.corder\",\"to_tables\":[\"a.corder\"]},{\"from_table\":\"A.corder@rdonly\",\"to_tables\":[\"A.corder\"]},{\"from_table\":\"A.corder@replica\",\"to_tables\":[\"A.corder\"]},{\"from_table\":\"a.corder@rdonly\",\"to_tables\":[\"A.corder\"]},{\"from_table\":\"a.corder@replica\",\"to_tables\":[\"A.corder\"]},{\"from_table\":\"corder\",\"to_tables\":[\"a.corder\"]},{\"from_table\":\"corder@rdonly\",\"to_tables\":[\"A.corder\"]},{\"from_table\":\"corder@replica\",\"to_tables\":[\"A.corder\"]}]}\n{\"denied\":[\"a.corder\"],\"keyspaces\":[{\"name\":\"A\",\"shards\":[\"-\"],\"tables\":[\"corder\"]},{\"name\":\"a\",\"shards\":[\"-\"],\"tables\":[\"corder\"]},{\"name\":\"a-\",\"shards\":[\"-\"],\"tables\":[]},{\"name\":\"a_\",\"shards\":[\"-\"],\"tables\":[\"corder\"]}],\"rules\":[{\"from_table\":\"A.corder\",\"to_tables\":[\"a.corder\"]},{\"from_table\":\"A.corder@rdonly\",\"to_tables\":[\"A.corder\"]},{\"from_table\":\"A.corder@replica\",\"to_tables\":[\"A.corder\"]},{\"from_table\":\"a.corder@rdonly\",\"to_tables\":[\"A.corder\"]},{\"from_table\":\"a.corder@replica\",\"to_tables\":[\"A.corder\"]},{\"from_table\":\"corder\",\"to_tables\":[\"a.corder\"]},{\"from_table\":\"corder@rdonly\",\"to_tables\":[\"A.corder\"]},{\"from_table\":\"corder@replica\",\"to_tables\":[\"A.corder\"]}],\"version\":2}\nrefused F7 NoWorkflow\nreverse A a corder switched - way back primary,replica,rdonly 9 forward stopped 0 copied back stopped 0\nrefused F7 NoWorkflow\nnone\nnone\nnone\nrefused F3 Denied\nnone\nnone\nnone\nnone\nnone\nrefused F3 Denied\nnone\nnone\n"
+whole_020 = output (watchers_of (codes "A" ∷ codes "a" ∷ codes "a_" ∷ codes "a-" ∷ [])) (codes "keyspace A\nkeyspace a\nkeyspace a_\nkeyspace a-\ntable A corder\ntable a_ corder\nat A.corder@primary append 1 a\ncreate _revers A a- corder\nadvance _revers forward 0 2\nbegin-switch _revers -\nundo _revers 6\nshow _revers\nbegin-switch _revers all\nstep _revers 0\ncreate $ a a- corder\nundo _revers 1\ncancel _revers\ncreate reverse A a corder\nadvance reverse forward/- 0 2\nadvance reverse forward 0 100\nswitch reverse all\nswitch reverse rdonly\nbegin-reverse reverse all\nstep reverse 0\nshow reverse\ncomplete reverse\nget corder 1\nat A.corder insert 72057594037927935 d\nstep reverse 1\nat A.corder get 0\nca\tncel _revers\nstep reverse 2\nat A.corder@primary update 3 d\nadvance reverse back 0 2\nstep reverse 3\nstep reverse 4\nappend corder 3 a\nbegin-reverse reverse rdonly\nget A.corder 1\nstep reverse 5\nstep reverse 6\nat A.corder@replica get 2\nat a-.corder@replica get 0001\nstep reverse 7\nat A.corder delete 1\nstep reverse 8\ncancel reverse\ninsert corder 2 y\nrules\ndump\nshow a\nshow reverse\nshow _revers\nat A.corder@primary get 1\nat A.corder@replica get 1\nat A.corder@rdonly get 1\nat a.corder@primary get 1\nat a.corder@replica get 1\nat a.corder@rdonly get 1\nat a_.corder@primary get 1\nat a_.corder@replica get 1\nat a_.corder@rdonly get 1\nget corder 1\nget corder@replica 1\nget corder@rdonly 1\n") ≡ codes "ok\nok\nok\nok\nok\nok\nrefused F5 NoRow\nok\nevents 0 rows 0\nrefused F15 NothingToSwitch\nrefused F14 NothingUnderWay\n_revers A a- corder switched - way none forward running 0 copied back none\nok\nok\nrefused N3 BadByte\nok\nok\nok\nevents 0 rows 0\nevents 0 rows 0\nok\nrefused F15 NothingToSwitch\nok\nok\nreverse A a corder switched primary,replica,rdonly way back primary,replica,rdonly 1 forward frozen 0 copied back running 0\nrefused F13 UnderWay\nnone\nrefused F3 Denied\nok\nrefused F3 Denied\nrefused X1 BadLine\nok\nrefused F3 Denied\nevents 0 rows 0\nok\nok\nrefused F3 Denied\nrefused F13 UnderWay\nrefused F3 Denied\nok\nok\nnone\nrefused F2 NoTable\nok\nrefused F3 Denied\nok\nrefused F13 UnderWay\nrefused F3 Denied\n{\"rules\":[{\"from_table\":\"A.corder\",\"to_tables\":[\"a.corder\"]},{\"from_table\":\"A.corder@rdonly\",\"to_tables\":[\"A.corder\"]},{\"from_table\":\"A.corder@replica\",\"to_tables\":[\"A.corder\"]},{\"from_table\":\"a.corder@rdonly\",\"to_tables\":[\"A.corder\"]},{\"from_table\":\"a.corder@replica\",\"to_tables\":[\"A.corder\"]},{\"from_table\":\"corder\",\"to_tables\":[\"a.corder\"]},{\"from_table\":\"corder@rdonly\",\"to_tables\":[\"A.corder\"]},{\"from_table\":\"corder@replica\",\"to_tables\":[\"A.corder\"]}]}\n{\"denied\":[\"a.corder\"],\"keyspaces\":[{\"name\":\"A\",\"shards\":[\"-\"],\"tables\":[\"corder\"]},{\"name\":\"a\",\"shards\":[\"-\"],\"tables\":[\"corder\"]},{\"name\":\"a-\",\"shards\":[\"-\"],\"tables\":[]},{\"name\":\"a_\",\"shards\":[\"-\"],\"tables\":[\"corder\"]}],\"rules\":[{\"from_table\":\"A.corder\",\"to_tables\":[\"a.corder\"]},{\"from_table\":\"A.corder@rdonly\",\"to_tables\":[\"A.corder\"]},{\"from_table\":\"A.corder@replica\",\"to_tables\":[\"A.corder\"]},{\"from_table\":\"a.corder@rdonly\",\"to_tables\":[\"A.corder\"]},{\"from_table\":\"a.corder@replica\",\"to_tables\":[\"A.corder\"]},{\"from_table\":\"corder\",\"to_tables\":[\"a.corder\"]},{\"from_table\":\"corder@rdonly\",\"to_tables\":[\"A.corder\"]},{\"from_table\":\"corder@replica\",\"to_tables\":[\"A.corder\"]}],\"version\":2}\nrefused F7 NoWorkflow\nreverse A a corder switched - way back primary,replica,rdonly 9 forward stopped 0 copied back stopped 0\nrefused F7 NoWorkflow\nnone\nnone\nnone\nrefused F3 Denied\nnone\nnone\nnone\nnone\nnone\nrefused F3 Denied\nnone\nnone\n"

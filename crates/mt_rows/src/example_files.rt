@@ -1,5 +1,5 @@
 //! The scripts of `examples/`, computed from the definitions. `checks/examples --rows` writes this file.
-ghost use Rattle.mt_rows.specs.ExampleFiles.{abandoned_switch, ambiguous_name, cancel_a_move, documents, first_table, give_up_a_switch, replica_reads, switch_and_reverse, switch_by_steps, two_moves, whole_move};
+ghost use Rattle.mt_rows.specs.ExampleFiles.{abandoned_switch, ambiguous_name, cancel_a_move, documents, first_table, give_up_a_switch, replica_reads, switch_and_reverse, switch_by_steps, two_moves, two_shards, whole_move};
 
 /// Each script of `examples/` has the output that stands beside it.
 pub fn each_example_prints_its_output()
@@ -13,5 +13,6 @@ pub fn each_example_prints_its_output()
     ensures switch_and_reverse { switch_and_reverse }
     ensures switch_by_steps { switch_by_steps }
     ensures two_moves { two_moves }
+    ensures two_shards { two_shards }
     ensures whole_move { whole_move }
 {}

@@ -13,12 +13,13 @@ use Rattle.mt_names.specs.Faults.{fault_text}
 use Rattle.mt_names.specs.Keys.{read_key}
 use Rattle.mt_names.specs.Names.{read_keyspace, read_workflow}
 use Rattle.mt_names.specs.Results.{◌>>=◌}
+use Rattle.mt_names.specs.Shards.{KeyRange, read_range}
 use Rattle.mt_names.specs.Tables.{names_of, read_table_list}
 use Rattle.mt_names.specs.Types.{read_type_set}
 use Rattle.mt_plain.specs.Events as plain
 use Rattle.mt_plain.specs.Output.{Told, line_feed, refused_text, says, told_line}
 use Rattle.mt_plain.specs.Plain.{Plain}
-use Rattle.mt_plain.specs.Script.{Command, Request, change_at, command, create, drive, event, get_at, read_line, request_of, type_of}
+use Rattle.mt_plain.specs.Script.{Command, Request, advance_in, change_at, command, create, drive, event, get_at, read_line, request_of, type_of}
 use Rattle.mt_io.specs.Bytes.{Known}
 use Rattle.mt_script.specs.declared.lines.LineRefusal.{LineRefusal}
 use Rattle.mt_script.specs.declared.lines.LineRefusal.TheVariants as refusal
@@ -152,7 +153,7 @@ module _ (workflow source target tables : List ℕ) where
 
 -- what is asked for, once the workflow is read
 abbrev pub request_then : WorkflowAsked → (workflow : List ℕ) → Result Request NameFault
-request_then (of_workflow.Advance stream at most) w = Ok (event (plain.advance w (stream_name stream) 0 at most))
+request_then (of_workflow.Advance words) w = read_range words.range.now >>= λ r. Ok (advance_in w (stream_name words.stream) r words.at words.max)
 request_then (of_workflow.BeginSwitch types) w = read_type_set types.now >>= λ t. Ok (event (plain.begin_switch w t))
 request_then (of_workflow.BeginReverse types) w = read_type_set types.now >>= λ t. Ok (event (plain.begin_reverse w t))
 request_then (of_workflow.Step at) w = Ok (event (plain.step w at))
@@ -164,7 +165,7 @@ request_then of_workflow.Complete w = Ok (event (plain.complete w))
 request_then of_workflow.Show w = Ok (event (plain.show w))
 
 asked_then : (name : List ℕ) (asked : WorkflowAsked) → request_of (asked_from name asked) ≡ (read_workflow name >>= request_then asked)
-asked_then name (of_workflow.Advance stream at most) = refl
+asked_then name (of_workflow.Advance words) = refl
 asked_then name (of_workflow.BeginSwitch types) = refl
 asked_then name (of_workflow.BeginReverse types) = refl
 asked_then name (of_workflow.Step at) = refl
@@ -183,6 +184,10 @@ workflow_read name asked said workflow request is read next =
 -- and its types
 pub types_read : (make : TypeSet → Request) (text : List ℕ) (types : TypeSet) → Ok types ≡ read_type_set text → (read_type_set text >>= λ t. Ok (make t)) ≡ Ok (make types)
 types_read make text types is = then_ok (λ t. Ok (make t)) (read_type_set text) types (Ok (make types)) is refl
+
+-- or the range of its shard
+pub range_read : (make : KeyRange → Request) (text : List ℕ) (range : KeyRange) → Ok range ≡ read_range text → (read_range text >>= λ r. Ok (make r)) ≡ Ok (make range)
+range_read make text range is = then_ok (λ r. Ok (make r)) (read_range text) range (Ok (make range)) is refl
 
 -- ---- whole drives
 

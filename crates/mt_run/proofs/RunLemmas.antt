@@ -12,14 +12,16 @@ use Rattle.mt_names.specs.declared.fault.NameFault.{NameFault}
 use Rattle.mt_names.specs.declared.keys.RuleTarget.{RuleTarget}
 use Rattle.mt_names.specs.declared.types.TypeSet.{TypeSet}
 use Rattle.mt_names.specs.Faults.{fault_text}
-use Rattle.mt_plain.specs.Events.{Answer, Event, Refusal}
+use Rattle.mt_names.specs.Shards.{KeyRange}
+use Rattle.mt_plain.specs.Events.{Answer, Event, Refusal, StreamName, advance, refused}
 use Rattle.mt_plain.specs.Answers.{Answers}
 use Rattle.mt_plain.specs.Drive.{Driven, Drives, Driving, EndRule, GoesOn, Heard, event_of, heard, most_turns}
 use Rattle.mt_plain.specs.Drive as turn
 use Rattle.mt_plain.specs.Next.{next}
-use Rattle.mt_plain.specs.Output.{Adds, IsOutputBy, Output, Told, asked_there, asks, drives, line_feed, nothing, output_from, refused_text, says, told, told_line, told_request}
+use Rattle.mt_plain.specs.Output.{Adds, IsOutputBy, Output, Told, asked_in, asked_there, asks, drives, line_feed, nothing, output_from, refused_text, says, told, told_line, told_request}
 use Rattle.mt_plain.specs.Output as plain
-use Rattle.mt_plain.specs.Plain.{Plain, opening}
+use Rattle.mt_plain.specs.Plain.{Plain, live_at, opening}
+use Rattle.mt_plain.specs.Refuse.{shard_of_range}
 use Rattle.mt_plain.specs.Script.{Command, Request, command, read_line, request_of}
 use Rattle.mt_plain.specs.Script as script
 use Rattle.mt_plain.specs.Serve.{served}
@@ -82,6 +84,34 @@ pub answered : (scopes : List Scope) (old new : SiteState) (event : Event) (answ
 answered scopes old new event answer waiting waiting' added steps =
     λ p stands. (plain.answer_text answer ++ line_feed, asks_told scopes old new event answer _ refl steps p stands, added ∙ append_assoc waiting (plain.answer_text answer) line_feed)
 
+-- ---- a shard, through its range
+
+module _ (scopes : List Scope) (old : SiteState) (workflow : List ℕ) (stream : StreamName) (range : KeyRange) (at at_most : ℕ) where
+  -- what is asked of a shard that was looked up
+  abbrev told_in : Result ℕ Refusal → Told
+  told_in found = asked_in found (λ shard. advance workflow stream shard at at_most)
+
+  -- how each state looks it up
+  abbrev pub Found : Result ℕ Refusal → Type 0
+  Found found = (p : Plain) → SiteStands p scopes old → found ≡ shard_of_range (live_at p workflow) range
+
+  -- the answer in the shard stands behind what waited
+  pub advanced_in : (new : SiteState) (shard : ℕ) (answer : Answer) (waiting waiting' : List ℕ) → waiting' ≡ waiting ++ plain.answer_text answer ++ line_feed → Found (Ok shard)
+      → SiteSteps scopes old (advance workflow stream shard at at_most) answer new → IsAnswered scopes old (script.advance_in workflow stream range at at_most) waiting waiting' new
+  advanced_in new shard answer waiting waiting' added found steps = λ p stands.
+      let text : List ℕ = plain.answer_text answer ++ line_feed in (
+        text,
+        subst (λ there. Tells scopes p (told_in there) (Some text) new) (found p stands) (asks_told scopes old new (advance workflow stream shard at at_most) answer text refl steps p stands),
+        added ∙ append_assoc waiting (plain.answer_text answer) line_feed,
+      )
+
+  -- that there is none stands there
+  pub nowhere_in : (refusal : Refusal) (waiting waiting' : List ℕ) → waiting' ≡ waiting ++ plain.answer_text (refused refusal) ++ line_feed → Found (Err refusal)
+      → IsAnswered scopes old (script.advance_in workflow stream range at at_most) waiting waiting' old
+  nowhere_in refusal waiting waiting' added found = λ p stands.
+      let text : List ℕ = plain.answer_text (refused refusal) ++ line_feed in
+      (text, subst (λ there. Tells scopes p (told_in there) (Some text) old) (found p stands) (refl, stands), added ∙ append_assoc waiting (plain.answer_text (refused refusal)) line_feed)
+
 -- ---- a row, through a name
 
 -- the answer where the name leads, told
@@ -132,7 +162,7 @@ command_told p line c is = ap (told_line p) (sym is)
 document_says : (p : Plain) (c : Command) → is_document c ≡ true → (words : List ℕ) × (told_request p (request_of c) ≡ says words)
 document_says p script.rules is = (rules_text (served p).rules, refl)
 document_says p script.dump is = (dump_text (served p), refl)
-document_says p (script.keyspace k) is = absurd cc
+document_says p (script.keyspace k s) is = absurd cc
 document_says p (script.table k t) is = absurd cc
 document_says p (script.rule k t) is = absurd cc
 document_says p (script.change n o) is = absurd cc
@@ -140,7 +170,7 @@ document_says p (script.get n k) is = absurd cc
 document_says p (script.change_at n o) is = absurd cc
 document_says p (script.get_at n k) is = absurd cc
 document_says p (script.create w s t l) is = absurd cc
-document_says p (script.advance w s a m) is = absurd cc
+document_says p (script.advance w s r a m) is = absurd cc
 document_says p (script.begin_switch w t) is = absurd cc
 document_says p (script.begin_reverse w t) is = absurd cc
 document_says p (script.step w a) is = absurd cc

@@ -18,17 +18,16 @@ use crate::cached::CachedSite;
 use mt_event::{Event, Reason, ShownOf};
 use mt_io::{LONGEST_LINE, ROOM, Waiting};
 use mt_names::{
-    KeyspaceName, NameFault, Position, RuleKey, RuleTarget, ShardList, TableName, TypeSet,
+    KeyRange, KeyspaceName, NameFault, RuleKey, RuleTarget, ShardList, TableName, TypeSet,
     WorkflowName, table_list,
 };
 use mt_script::{
-    CreateWords, QualifiedName, RowAsked, WorkflowAsked, put_advanced, put_answer, put_created,
-    put_driven, put_reason, put_shown, put_written,
+    AdvanceWords, CreateWords, QualifiedName, RowAsked, WorkflowAsked, put_advanced, put_answer,
+    put_created, put_driven, put_reason, put_shown, put_written,
 };
 use mt_site::{Command, drive};
 use mt_stream::Advanced;
 use mt_watch::Asks;
-use mt_workflow::Slot;
 
 /// Tells that a command is done, or why it is refused.
 fn tell_done(told: &Result<(), Reason>, waiting: &mut Waiting)
@@ -52,18 +51,19 @@ fn command<A: Asks>(cached: &mut CachedSite<A>, asked: Command<'_>, waiting: &mu
     tell_done(&cached.site.command(asked), waiting);
 }
 
-/// Makes a keyspace.
+/// Makes a keyspace with its shards.
 pub fn add_keyspace<A: Asks>(
     cached: &mut CachedSite<A>,
     name: &str,
+    shards: &str,
     waiting: &mut Waiting,
 ) -> Result<(), NameFault>
     requires room { length waiting.old.items + LONGEST_LINE ≤ ROOM }
     ensures watchers { cached.new.site.watchers ≡ cached.old.site.watchers }
-    ensures named { IsNamed (A.scopes cached.old.site.watchers) cached.old.site.core (language.keyspace name.now) waiting.old.items waiting.new.items result cached.new.site.core }
+    ensures named { IsNamed (A.scopes cached.old.site.watchers) cached.old.site.core (language.keyspace name.now shards.now) waiting.old.items waiting.new.items result cached.new.site.core }
 {
     let keyspace = KeyspaceName::parse(name)?;
-    let shards = ShardList::unsharded();
+    let shards = ShardList::parse(shards)?;
     command(cached, Command::AddKeyspace(&keyspace, &shards), waiting);
     Ok(())
 }
@@ -197,20 +197,31 @@ fn tell_advanced(told: &Result<Advanced, Reason>, waiting: &mut Waiting)
     }
 }
 
-/// Advances a stream of a workflow, which leaves where names lead. It asks nobody.
+/// Advances a stream of a workflow in the shard of a range, which leaves where names lead. It asks nobody.
 fn advance<A: Asks>(
     cached: &mut CachedSite<A>,
     workflow: &WorkflowName,
-    stream: Slot,
-    at: Position,
-    max: u16,
+    range: &KeyRange,
+    words: AdvanceWords<'_>,
     waiting: &mut Waiting,
 )
     requires room { length waiting.old.items + LONGEST_LINE ≤ ROOM }
     ensures watchers { cached.new.site.watchers ≡ cached.old.site.watchers }
-    ensures answered { (scopes : List Scope) → IsAnswered scopes cached.old.site.core (event (plain.advance workflow.now (stream_name stream) 0 at max)) waiting.old.items waiting.new.items cached.new.site.core }
+    ensures answered { (scopes : List Scope) → IsAnswered scopes cached.old.site.core (language.advance_in workflow.now (stream_name words.entry.stream) range.now words.entry.at words.entry.max) waiting.old.items waiting.new.items cached.new.site.core }
 {
-    tell_advanced(&cached.site.advance(workflow, stream, 0, at, max), waiting);
+    let AdvanceWords {
+        stream,
+        at,
+        max,
+        ..
+    } = words;
+    match cached.site.shard(workflow, range) {
+        Ok(shard) => {
+            let told = cached.site.advance(workflow, stream, shard, at, max);
+            tell_advanced(&told, waiting);
+        }
+        Err(refusal) => put_answer(waiting, &Err(refusal)),
+    }
 }
 
 /// Tells what is told of a workflow, or why it is refused.
@@ -263,9 +274,10 @@ pub fn workflow<A: Asks>(
 {
     let workflow = &WorkflowName::parse(name)?;
     match asked {
-        WorkflowAsked::Advance(stream, at, max) => advance(
-            cached, workflow, stream, at, max, waiting,
-        ),
+        WorkflowAsked::Advance(words) => {
+            let range = KeyRange::parse(words.range)?;
+            advance(cached, workflow, &range, words, waiting);
+        }
         WorkflowAsked::BeginSwitch(types) => {
             let begin = Command::BeginSwitch(workflow, TypeSet::parse(types)?);
             command(cached, begin, waiting);

@@ -63,7 +63,7 @@ fn run_line<W: Write, A: Asks>(
         Line::At(name, asked) => row_at(cached, &name, &asked, waiting),
         Line::Workflow(name, asked) => workflow(cached, name, asked, waiting),
         Line::Create(words) => create(cached, words, waiting),
-        Line::Keyspace(name) => add_keyspace(cached, name, waiting),
+        Line::Keyspace(name, shards) => add_keyspace(cached, name, shards, waiting),
         Line::Table(keyspace, name) => add_table(cached, keyspace, name, waiting),
         Line::Rule(key, target) => edit_rule(cached, key, target, waiting),
         Line::Rules => return put_made(cached.site.rules_json().ok(), waiting, writer),

@@ -22,6 +22,8 @@ mod reversal;
 #[cfg(test)]
 mod scripts;
 #[cfg(test)]
+mod shards;
+#[cfg(test)]
 mod steps;
 #[cfg(test)]
 mod way_refusals;

@@ -38,7 +38,7 @@ const MORE_KEYSPACES: [(&str, &str); 8] = [
     ("keyspace k32", "refused F27 Full"),
     ("keyspace k31", "refused F30 Exists"),
     ("keyspace -k", "refused N3 BadByte"),
-    ("keyspace k32 x", "refused X1 BadLine"),
+    ("keyspace k32 - x", "refused X1 BadLine"),
     ("table k32 t", "refused F1 NoKeyspace"),
     ("table k31 t", "ok"),
     ("insert t 1 v", "ok"),

@@ -193,7 +193,7 @@ const BLANKS: [(&[u8], &[u8]); 5] = [
     (b"#\n# keyspace a\n#\xff\x00\n", b""),
     (
         b" # keyspace a\nkeyspace a #\n",
-        b"refused X1 BadLine\nrefused X1 BadLine\n",
+        b"refused X1 BadLine\nrefused N9 BadRange\n",
     ),
     (
         b"keyspace \xc3\xa9\nkeyspace \x7f\n\x00\n",

@@ -48,7 +48,7 @@ row_from write read name (row.Read number) = read name number
 
 -- what is asked for of a workflow
 abbrev pub asked_from : (workflow : List ℕ) → WorkflowAsked → Command
-asked_from workflow (of_workflow.Advance stream at most) = plain.advance workflow (stream_name stream) at most
+asked_from workflow (of_workflow.Advance words) = plain.advance workflow (stream_name words.stream) words.range.now words.at words.max
 asked_from workflow (of_workflow.BeginSwitch types) = plain.begin_switch workflow types.now
 asked_from workflow (of_workflow.BeginReverse types) = plain.begin_reverse workflow types.now
 asked_from workflow (of_workflow.Step at) = plain.step workflow at
@@ -72,7 +72,7 @@ line_from (line.Row name asked) = plain.command (row_from plain.change plain.get
 line_from (line.At name asked) = plain.command (row_from plain.change_at plain.get_at name asked)
 line_from (line.Workflow workflow asked) = plain.command (asked_from workflow.now asked)
 line_from (line.Create words) = plain.command (plain.create words.workflow.now words.source.now words.target.now words.tables.now)
-line_from (line.Keyspace keyspace) = plain.command (plain.keyspace keyspace.now)
+line_from (line.Keyspace keyspace shards) = plain.command (plain.keyspace keyspace.now shards.now)
 line_from (line.Table keyspace table) = plain.command (plain.table keyspace.now table.now)
 line_from (line.Rule key target) = plain.command (plain.rule key.now target.now)
 line_from line.Rules = plain.command plain.rules

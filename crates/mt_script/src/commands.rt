@@ -1,10 +1,10 @@
 //! Commands: a verb, and the words behind it.
 ghost use Rattle.std.specs.Prelude.{◌≡◌, MatchOption, false, true, option_map};
 ghost use Rattle.mt_names.specs.Keys.{after, at_sign};
-ghost use Rattle.mt_plain.specs.Script.{change, change_at, command, command_of, get, get_at, is_for_reads, is_readable, is_row_verb, read_at, read_command, read_row_command, words_of};
+ghost use Rattle.mt_plain.specs.Script.{change, change_at, command, command_of, get, get_at, is_for_reads, is_readable, is_row_verb, read_at, read_command, read_new_keyspace, read_row_command, words_of};
 ghost use Rattle.mt_script.specs.Lines.{line_from, may_ask, read_asked, read_last_number, read_number_and_value, verb_text};
 
-use crate::lines::{Line, RowAsked};
+use crate::lines::{Line, RowAsked, UNSHARDED};
 use crate::numbers::read_number;
 use crate::ops::{OpText, ValueText, ValueVerb};
 use crate::qualified::QualifiedName;
@@ -131,6 +131,18 @@ fn at_command(words: &str) -> Option<Line<'_>>
     Some(Line::At(QualifiedName::of(name)?, asked))
 }
 
+/// Reads what stands behind `keyspace`: its name, and its shards where they are written.
+fn keyspace_command(words: &str) -> Option<Line<'_>>
+    requires { is_readable words.now ≡ true }
+    ensures { option_map line_from result ≡ option_map command (read_new_keyspace (words_of words.now)) }
+{
+    let (keyspace, rest) = first_word(words)?;
+    if first_word(rest).is_none() {
+        return Some(Line::Keyspace(keyspace, UNSHARDED));
+    }
+    Some(Line::Keyspace(keyspace, one_word(rest)?))
+}
+
 /// Reads a command that isn't an operation on a row, behind its verb.
 #[inline(never)]
 fn other_command<'a>(verb: &str, words: &'a str) -> Option<Line<'a>>
@@ -139,7 +151,7 @@ fn other_command<'a>(verb: &str, words: &'a str) -> Option<Line<'a>>
     ensures { option_map line_from result ≡ option_map command (read_command verb.now (words_of words.now)) }
 {
     match verb {
-        "keyspace" => Some(Line::Keyspace(one_word(words)?)),
+        "keyspace" => keyspace_command(words),
         "table" => {
             let (keyspace, table) = two_words(words)?;
             Some(Line::Table(keyspace, table))

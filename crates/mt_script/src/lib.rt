@@ -13,7 +13,9 @@ mod words;
 mod workflows;
 
 pub use cut::first_line;
-pub use lines::{CreateWords, Line, LineRefusal, MAX_LINE_LENGTH, RowAsked, WorkflowAsked, read};
+pub use lines::{
+    AdvanceWords, CreateWords, Line, LineRefusal, MAX_LINE_LENGTH, RowAsked, WorkflowAsked, read,
+};
 pub use ops::{OpText, ValueText, ValueVerb};
 pub use qualified::QualifiedName;
 pub use shown::LineText;

@@ -15,6 +15,9 @@ use std::str;
 /// The longest line that is read, in bytes, without its line end.
 pub const MAX_LINE_LENGTH: usize = 4096;
 
+/// The text of an unsharded keyspace's one range, and of its list of shards.
+pub const UNSHARDED: &str = "-";
+
 /// What is asked of a row.
 #[derive(Debug, Drop)]
 pub enum RowAsked<'a> {
@@ -27,9 +30,8 @@ pub enum RowAsked<'a> {
 /// What is asked for of a workflow that is there, W in what follows. Tablet types stand as they are written.
 #[derive(Clone, Copy, Debug)]
 pub enum WorkflowAsked<'a> {
-    /// `advance W forward AT MAX`, or `back`: the workflow's stream at this position copies rows or reads entries, so many at
-    /// most.
-    Advance(Slot, Position, u16),
+    /// `advance W STREAM AT MAX`: a stream of the workflow copies rows or reads entries.
+    Advance(AdvanceWords<'a>),
     /// `begin-switch W TYPES`: begins to switch the traffic of these types to the target.
     BeginSwitch(&'a str),
     /// `begin-reverse W TYPES`: begins to send the traffic of these types back to the source.
@@ -48,6 +50,19 @@ pub enum WorkflowAsked<'a> {
     Complete,
     /// `show W`: tells of a workflow.
     Show,
+}
+
+/// What a line says that advances a stream of a workflow. The stream is `forward/RANGE` or `back/RANGE`.
+#[derive(Clone, Copy, Debug)]
+pub struct AdvanceWords<'a> {
+    /// Which of the two streams of its shard it is.
+    pub stream: Slot,
+    /// The key range of its shard. Where none is written, this is `-`, that of an unsharded target.
+    pub range: &'a str,
+    /// The position at which it is expected.
+    pub at: Position,
+    /// How many rows or entries at most.
+    pub max: u16,
 }
 
 /// What a line says that makes a workflow.
@@ -87,8 +102,8 @@ pub enum Line<'a> {
     Workflow(&'a str, WorkflowAsked<'a>),
     /// `create W S T TABLES`: makes a workflow that moves tables from S to T.
     Create(CreateWords<'a>),
-    /// `keyspace K`: makes a keyspace.
-    Keyspace(&'a str),
+    /// `keyspace K SHARDS`: makes a keyspace with shards of these ranges. Without them it is unsharded, `-`.
+    Keyspace(&'a str, &'a str),
     /// `table K T`: makes a table in a keyspace.
     Table(&'a str, &'a str),
     /// `rule KEY TARGET`: sets a routing rule, or takes it away where the target is `-`.

@@ -1,10 +1,11 @@
 //! Commands on workflows.
-ghost use Rattle.std.specs.Prelude.{◌≡◌, true, option_map};
-ghost use Rattle.mt_plain.specs.Script.{command, create, four_words, is_readable, read_advance, read_stream, read_workflow_command, words_of};
+ghost use Rattle.std.specs.Prelude.{◌≡◌, true, option_map, unwrap_or};
+ghost use Rattle.mt_names.specs.Keys.{after, before};
+ghost use Rattle.mt_plain.specs.Script.{command, create, four_words, is_readable, one_shard, read_advance, read_stream, read_workflow_command, slash, words_of};
 ghost use Rattle.mt_workflow.specs.Workflows.{stream_name};
 ghost use Rattle.mt_script.specs.Lines.{line_from};
 
-use crate::lines::{CreateWords, Line, WorkflowAsked};
+use crate::lines::{AdvanceWords, CreateWords, Line, UNSHARDED, WorkflowAsked};
 use crate::numbers::{read_number, read_small_number};
 use crate::words::{four_words, one_word, two_words};
 use mt_workflow::Slot;
@@ -17,6 +18,17 @@ fn read_stream(word: &str) -> Option<Slot>
         "forward" => Some(Slot::Forward),
         "back" => Some(Slot::Back),
         _ => None,
+    }
+}
+
+/// The word of a stream, and the range behind it: that of an unsharded keyspace where none is written.
+fn cut_range(word: &str) -> (&str, &str)
+    ensures stream { result.0.now ≡ before slash word.now }
+    ensures range { result.1.now ≡ unwrap_or (after slash word.now) one_shard }
+{
+    match word.split_once('/') {
+        Some((stream, range)) => (stream, range),
+        None => (word, UNSHARDED),
     }
 }
 
@@ -40,10 +52,17 @@ fn advance_command(words: &str) -> Option<Line<'_>>
     ensures { option_map line_from result ≡ option_map command (read_advance (words_of words.now)) }
 {
     let (workflow, stream, at, max) = four_words(words)?;
+    let (stream, range) = cut_range(stream);
     let stream = read_stream(stream)?;
     let at = read_number(at)?;
     let max = read_small_number(max)?;
-    Some(Line::Workflow(workflow, WorkflowAsked::Advance(stream, at, max)))
+    let words = AdvanceWords {
+        stream,
+        range,
+        at,
+        max,
+    };
+    Some(Line::Workflow(workflow, WorkflowAsked::Advance(words)))
 }
 
 /// Reads a command on a workflow, behind its verb.

@@ -1,12 +1,25 @@
 -- The shard of a workflow's target that is found by its range.
-use Rattle.std.proofs.Common.{◌≡◌, ◌<◌, ◌≤◌, ◌+◌, ⊎_elim, ℕ, Bool, true, false, cond, List, [], ◌∷◌, get_or, length, nat_lt, Option, None, Some, slice_get, refl, sym, ap, ◌∙◌, arith}
+use Rattle.std.proofs.Common.{◌≡◌, ◌<◌, ◌≤◌, ◌+◌, ⊎_elim, ℕ, Bool, true, false, cond, List, [], ◌∷◌, get_or, length, map, nat_lt, Option, None, Some, Ok, Err, slice_get, refl, sym, ap, ◌∙◌, arith}
 use Rattle.std.proofs.lemmas.Bool.{cases_lt, lt-ltb, ltb-true}
+use Rattle.std.proofs.lemmas.List.{length-map}
 use Rattle.std.proofs.lemmas.List.Sums.{position_or_len_is}
 use Rattle.std.proofs.lemmas.Option.{get_or_from_slice_get, slice_get-get_or}
-use Rattle.std.specs.List.{position_or_len}
-use Rattle.std.specs.Prelude.{option_map, position}
-use Rattle.mt_names.specs.Shards.{KeyRange, same_range}
-use Rattle.mt_workflow.specs.Workflows.{LaneState}
+use Rattle.std.specs.List.{position_or_len, range_with_len}
+use Rattle.std.specs.Prelude.{not, option_map, position}
+use Rattle.mt_names.specs.Shards.{AreCuts, KeyRange, place_of_range, ranges_of, same_range, shard_count, whole}
+use Rattle.mt_names.proofs.ShardLemmas.{count_ranges, place-counted}
+use Rattle.mt_model.specs.declared.entries.Scope.{Scope}
+use Rattle.mt_plain.specs.Answers.{range_at}
+use Rattle.mt_plain.specs.Events.{no_shard}
+use Rattle.mt_plain.specs.Plain.{Lane, Live, Plain, live_at}
+use Rattle.mt_plain.specs.Refuse.{shard_of_range}
+use Rattle.mt_laws.proofs.LaneLemmas.{IsNumbered}
+use Rattle.mt_site_events.proofs.ShardLemmas.{cuts_ascend, each_at, lanes_numbered}
+use Rattle.mt_site_state.specs.Core.{workflow_at}
+use Rattle.mt_site_state.specs.Stands.{StandsForAny, lane_state}
+use Rattle.mt_site_state.specs.Ways.{SiteStands, SiteState}
+use Rattle.mt_workflow.specs.Workflows.{LaneState, WorkflowState}
+use Rattle.mt_site.specs.Shards.{shard_in, shard_or_none}
 
 module _ {A : Type 0} (test : A → Bool) (xs : List A) where
   -- none before a place passes
@@ -64,3 +77,48 @@ module _ (lanes : List LaneState) (range : KeyRange) where
       by : (o : Option LaneState) → slice_get lanes i ≡ o → option_map (λ (lane : LaneState). lane.range) o ≡ Some r → NoneBefore has_range lanes (i + 1)
       by None found is = absurd cc
       by (Some lane) found is = let same : lane.range ≡ r = cc in none-more has_range lanes i before lane found (ap (same_range range) same ∙ fails)
+
+-- ---- the shard that a state knows
+
+-- what is found by its image stands where it does
+position-image : {A B : Type 0} (test : B → Bool) (f : A → B) (xs : List A) → position (λ x. test (f x)) xs ≡ position test (map f xs)
+position-image {A} test f xs = ap (λ n. placed n (length xs)) (image xs) ∙ ap (placed (position_or_len test (map f xs))) (sym (length-map xs f))
+  where
+    placed : ℕ → ℕ → Option ℕ
+    placed n long = cond (nat_lt n long) (Some n) None
+
+    image : (ys : List A) → position_or_len (λ x. test (f x)) ys ≡ position_or_len test (map f ys)
+    image [] = refl
+    image (y ∷ ys) = ap (λ n. cond (not (test (f y))) (1 + n) 0) (image ys)
+
+-- the lanes of a live workflow have the ranges of its shards
+ranges_told : (live : Live) → IsNumbered live → AreCuts live.cuts → map (λ lane. lane.range) (map (lane_state live) live.lanes) ≡ ranges_of live.cuts
+ranges_told live numbered are =
+    by live.lanes ∙ ap (map (range_at live.cuts)) numbered ∙ ap (λ n. map (range_at live.cuts) (range_with_len 0 n)) (sym (count_ranges live.cuts are))
+    ∙ sym (each_at whole (ranges_of live.cuts))
+  where
+    by : (lanes : List Lane) → map (λ lane. lane.range) (map (lane_state live) lanes) ≡ map (range_at live.cuts) (map (λ (lane : Lane). lane.shard) lanes)
+    by [] = refl
+    by (lane ∷ lanes) = ap (λ rest. range_at live.cuts lane.shard ∷ rest) (by lanes)
+
+-- so a range is found among them as the state finds it
+pub shard_told : (p : Plain) (scopes : List Scope) (s : SiteState) (name : List ℕ) (range : KeyRange) → SiteStands p scopes s
+    → shard_in (workflow_at s.core.workflows name) range ≡ shard_of_range (live_at p name) range
+shard_told p scopes s name range stands = by (live_at p name) refl (workflow_at s.core.workflows name) (stands.core.workflows.each name)
+  where
+    either : (b : Bool) (place : ℕ) → shard_or_none (cond b (Some place) None) ≡ cond b (Ok place) (Err no_shard)
+    either true place = refl
+    either false place = refl
+
+    by : (o : Option Live) → live_at p name ≡ o → (found : Option WorkflowState) → StandsForAny p o found → shard_in found range ≡ shard_of_range o range
+    by None there None is = refl
+    by None there (Some w) is = absurd is
+    by (Some live) there None is = absurd is
+    by (Some live) there (Some w) is =
+        let numbered : IsNumbered live = lanes_numbered p stands.core.reached name live there in
+        let are : AreCuts live.cuts = cuts_ascend p stands.core.reached name live there s.core.primaries stands.core.primaries in
+        ap shard_or_none (position-image (same_range range) (λ (lane : LaneState). lane.range) w.lanes
+        ∙ ap (λ lanes. position (same_range range) (map (λ (lane : LaneState). lane.range) lanes)) is.lanes
+        ∙ ap (position (same_range range)) (ranges_told live numbered are)
+        ∙ place-counted live.cuts are range)
+        ∙ either (nat_lt (place_of_range live.cuts range) (shard_count live.cuts)) (place_of_range live.cuts range)

@@ -5,8 +5,8 @@ ghost use Rattle.mt_event.specs.Reasons.{done_by};
 ghost use Rattle.mt_model.specs.Documents.{dump_text, rules_text};
 ghost use Rattle.mt_model.specs.Topology.{resolution};
 ghost use Rattle.mt_plain.specs.Events as plain;
-ghost use Rattle.mt_plain.specs.Plain.{Plain, opening};
-ghost use Rattle.mt_plain.specs.Refuse.{owed};
+ghost use Rattle.mt_plain.specs.Plain.{Plain, live_at, opening};
+ghost use Rattle.mt_plain.specs.Refuse.{owed, shard_of_range};
 ghost use Rattle.mt_plain.specs.Serve.{served};
 ghost use Rattle.mt_model.specs.declared.entries.Scope.{Scope};
 ghost use Rattle.mt_site_state.specs.Purges.{IsPurged};
@@ -182,7 +182,8 @@ impl<W: Asks> Site<W> {
 
     /// The shard of a live workflow's target whose range is written so, by its place: see `Core::shard`. It takes no memory.
     pub fn shard(&self, workflow: &WorkflowName, range: &KeyRange) -> Result<u8, Refusal>
-        ensures { shard_from result ≡ shard_in (workflow_at self.now.core.core.workflows workflow.now) range.now }
+        ensures place { shard_from result ≡ shard_in (workflow_at self.now.core.core.workflows workflow.now) range.now }
+        ensures stands { (p : Plain) (scopes : List Scope) → SiteStands p scopes self.now.core → shard_from result ≡ shard_of_range (live_at p workflow.now) range.now }
     {
         self.core.shard(workflow, range)
     }

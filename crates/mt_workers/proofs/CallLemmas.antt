@@ -9,8 +9,10 @@ use Rattle.mt_event.specs.declared.refusal.Refusal.{Refusal}
 use Rattle.mt_event.specs.declared.reason.Reason.TheVariants as reason
 use Rattle.mt_event.specs.declared.refusal.Refusal.TheVariants as refusal
 use Rattle.mt_event.specs.declared.reply.Reply.TheVariants as reply
+use Rattle.mt_plain.specs.Plain.{behind_last, next_step, stands_done, write_journal}
+use Rattle.mt_workflow.specs.Workflows.{way_from}
 use Rattle.mt_workers.specs.Advances.{Answer}
-use Rattle.mt_workers.specs.Controls.{AsksForItsOwn, EndsInStep, EndsWithAStep, GoesOnOr, IsOfController, IsStepDone, Looks, LooksOr, Runs, RunsFrom, advance_refused, again, begin_event, course_of, due, ended, fails, heard, most_steps, next_step, none_open, one_try_fewer, step_refused, stepped, undo_refused, undone, with_done, with_position}
+use Rattle.mt_workers.specs.Controls.{AsksForItsOwn, EndsInStep, EndsWithAStep, GoesOnOr, IsOfController, IsStepDone, Looks, LooksOr, Runs, RunsFrom, advance_refused, again, begin_event, course_of, due, ended, fails, heard, most_places, none_open, one_try_fewer, step_refused, stepped, undo_refused, undone, with_done, with_position}
 use Rattle.mt_workers.specs.declared.course.Course.{Course}
 use Rattle.mt_workers.specs.declared.fault.ControlFault.{ControlFault}
 use Rattle.mt_workers.specs.declared.turn.Heard.{Heard}
@@ -28,7 +30,7 @@ none_left workflow calls is = subst (AreOwn workflow) (sym is) tt
 
 due_own : (workflow : List ℕ) (turn : Turn) (course : Course) → IsOfController workflow (due workflow turn course)
 due_own workflow Steps course = refl
-due_own workflow Feeds course = refl
+due_own workflow (Feeds shard) course = refl
 due_own workflow (GivesUp why) course = refl
 
 runs_own : (workflow : List ℕ) (turn : Turn) (course : Course) (calls : List Call) (result : Result Driven ControlFault) → Runs workflow turn course calls result → AreOwn workflow calls
@@ -73,9 +75,9 @@ DoneIf P (Ends (Ok Done)) = P
 DoneIf P other = Unit {0}
 
 fails_undone : (P : Type 0) (course : Course) (why : Refusal) → DoneIf P (fails course why)
-fails_undone P course why = by (nat_lt 6 (next_step course))
+fails_undone P course why = by (stands_done (way_from course.way) write_journal)
   where
-    by : (t : Bool) → DoneIf P (cond t (Ends (Ok (Stopped why course.done))) (GoesOn (GivesUp why) course))
+    by : (t : Bool) → DoneIf P (cond t (Ends (Ok (Stopped why course.way.done))) (GoesOn (GivesUp why) course))
     by true = tt
     by false = tt
 
@@ -87,47 +89,47 @@ again_undone P turn course why = by (nat_lt 1 course.tries)
     by false = fails_undone P course why
 
 stepped_done : (P : Type 0) (course : Course) → P → DoneIf P (stepped course)
-stepped_done P course p = by (nat_lt (next_step course + 1) course.behind)
+stepped_done P course p = by (nat_lt (next_step (way_from course.way) + 1) (behind_last (way_from course.way)))
   where
-    by : (t : Bool) → DoneIf P (cond t (GoesOn Steps (with_done course (course.done + 1))) (Ends (Ok Done)))
+    by : (t : Bool) → DoneIf P (cond t (GoesOn Steps (with_done course (course.way.done + 1))) (Ends (Ok Done)))
     by true = tt
     by false = p
 
 undone_undone : (P : Type 0) (why : Refusal) (course : Course) → DoneIf P (undone why course)
-undone_undone P why course = by (nat_lt 1 course.done)
+undone_undone P why course = by (nat_lt 1 course.way.done)
   where
-    by : (t : Bool) → DoneIf P (cond t (GoesOn (GivesUp why) (with_done course (course.done - 1))) (Ends (Ok (Abandoned why))))
+    by : (t : Bool) → DoneIf P (cond t (GoesOn (GivesUp why) (with_done course (course.way.done - 1))) (Ends (Ok (Abandoned why))))
     by true = tt
     by false = tt
 
 step_refused_undone : (P : Type 0) (course : Course) (why : Refusal) → DoneIf P (step_refused course why)
-step_refused_undone P course (refusal.Other reason.NotLevel) = again_undone P Feeds course (refusal.Other reason.NotLevel)
-step_refused_undone P course (refusal.Other (reason.Stale current)) = again_undone P Steps (with_done course (min current most_steps)) (refusal.Other (reason.Stale current))
+step_refused_undone P course (refusal.Other reason.NotLevel) = again_undone P (Feeds 0) course (refusal.Other reason.NotLevel)
+step_refused_undone P course (refusal.Other (reason.Stale current)) = again_undone P Steps (with_done course (min current most_places)) (refusal.Other (reason.Stale current))
 step_refused_undone P course (refusal.Other reason.NoWorkflow) = tt
 step_refused_undone P course (refusal.Other reason.NothingUnderWay) = tt
 step_refused_undone P course why = fails_undone P course why
 
-advance_refused_undone : (P : Type 0) (course : Course) (why : Refusal) → DoneIf P (advance_refused course why)
-advance_refused_undone P course (refusal.Other (reason.Stale current)) = again_undone P Feeds (with_position course current) (refusal.Other (reason.Stale current))
-advance_refused_undone P course why = fails_undone P course why
+advance_refused_undone : (P : Type 0) (shard : ℕ) (course : Course) (why : Refusal) → DoneIf P (advance_refused shard course why)
+advance_refused_undone P shard course (refusal.Other (reason.Stale current)) = again_undone P (Feeds shard) (with_position course shard current) (refusal.Other (reason.Stale current))
+advance_refused_undone P shard course why = fails_undone P course why
 
 undo_refused_undone : (P : Type 0) (why : Refusal) (course : Course) (other : Refusal) → DoneIf P (undo_refused why course other)
 undo_refused_undone P why course (refusal.Other (reason.Stale current)) = by (nat_lt 1 course.tries)
   where
-    by : (t : Bool) → DoneIf P (cond t (GoesOn (GivesUp why) (one_try_fewer (with_done course (min current most_steps)))) (Ends (Err (refusal.Other (reason.Stale current)))))
+    by : (t : Bool) → DoneIf P (cond t (GoesOn (GivesUp why) (one_try_fewer (with_done course (min current most_places)))) (Ends (Err (refusal.Other (reason.Stale current)))))
     by true = tt
     by false = tt
 undo_refused_undone P why course other = tt
 
 done_by_step : (workflow : List ℕ) (turn : Turn) (course : Course) (event : Event) (answer : Answer) → event ≡ due workflow turn course
     → DoneIf (IsStepDone workflow record { event = event; answer = answer }) (heard turn course answer)
-done_by_step workflow Steps course event (Ok reply.Done) is = stepped_done (IsStepDone workflow record { event = event; answer = Ok reply.Done }) course (course.done, is, refl)
+done_by_step workflow Steps course event (Ok reply.Done) is = stepped_done (IsStepDone workflow record { event = event; answer = Ok reply.Done }) course (course.way.done, is, refl)
 done_by_step workflow Steps course event (Ok (reply.Row row)) is = tt
 done_by_step workflow Steps course event (Ok (reply.Advanced counts)) is = tt
 done_by_step workflow Steps course event (Ok (reply.Shown shown)) is = tt
 done_by_step workflow Steps course event (Err why) is = step_refused_undone (IsStepDone workflow record { event = event; answer = Err why }) course why
-done_by_step workflow Feeds course event (Ok taken) is = tt
-done_by_step workflow Feeds course event (Err why) is = advance_refused_undone (IsStepDone workflow record { event = event; answer = Err why }) course why
+done_by_step workflow (Feeds shard) course event (Ok taken) is = tt
+done_by_step workflow (Feeds shard) course event (Err why) is = advance_refused_undone (IsStepDone workflow record { event = event; answer = Err why }) shard course why
 done_by_step workflow (GivesUp why) course event (Ok taken) is = undone_undone (IsStepDone workflow record { event = event; answer = Ok taken }) why course
 done_by_step workflow (GivesUp why) course event (Err other) is = undo_refused_undone (IsStepDone workflow record { event = event; answer = Err other }) why course other
 

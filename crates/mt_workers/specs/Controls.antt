@@ -1,6 +1,6 @@
 -- What a controller asks for, and what follows from each answer (MoveTables: SwitchTraffic, ReverseTraffic; the tries are this profile's own).
-use Rattle.std.specs.Prelude.{◌≡◌, ◌+◌, ◌-◌, ℕ, min, nat_lt, Bool, true, false, if◌then◌else◌, List, [], ◌∷◌, ◌++◌, Result, Ok, Err, slice_get}
-use Rattle.std.specs.List.{AllByRecursion}
+use Rattle.std.specs.Prelude.{◌≡◌, ◌+◌, ◌-◌, ℕ, min, nat_lt, Bool, true, false, if◌then◌else◌, List, [], ◌∷◌, ◌++◌, length, map, Result, Ok, Err, slice_get, slice_index, slice_set}
+use Rattle.std.specs.List.{AllByRecursion, range_with_len}
 use Rattle.std.specs.Option.{option_map_or}
 use Rattle.mt_desk.specs.declared.history.Call.{Call}
 use Rattle.mt_event.specs.declared.driven.Driven.{Driven}
@@ -14,7 +14,8 @@ use Rattle.mt_event.specs.declared.refusal.Refusal.TheVariants as refusal
 use Rattle.mt_event.specs.declared.reply.Reply.TheVariants as reply
 use Rattle.mt_event.specs.declared.reply.Shown.{Shown}
 use Rattle.mt_names.specs.declared.types.TypeSet.{TypeSet}
-use Rattle.mt_plain.specs.Plain.{behind_last, first_step}
+use Rattle.mt_names.specs.Shards.{most_shards}
+use Rattle.mt_plain.specs.Plain.{behind_last, next_step, stands_done, write_journal}
 use Rattle.mt_workflow.specs.declared.way.Slot.{Slot}
 use Rattle.mt_workflow.specs.declared.way.Slot.TheVariants.{Forward, Back}
 use Rattle.mt_workflow.specs.declared.way.Way.{Way}
@@ -28,49 +29,46 @@ use Rattle.mt_workers.specs.declared.turn.Heard.TheVariants.{GoesOn, Ends}
 use Rattle.mt_workers.specs.declared.turn.Turn.{Turn}
 use Rattle.mt_workers.specs.declared.turn.Turn.TheVariants.{Steps, Feeds, GivesUp}
 
--- ---- the course of a controller, as it knows it: which way it goes, how many of its steps stand done, where the feeding stream is, and how
--- many tries are left
+-- ---- the course of a controller, as it knows it: the way that it goes, how many of its places stand done, where the feeding stream of each
+-- shard is, and how many tries are left
 
--- no way has more steps
-abbrev pub most_steps : ℕ
-most_steps = 12
+-- no way has more places: twelve steps, of which one has a place for each shard, eight at most
+abbrev pub most_places : ℕ
+most_places = 19
 
 -- how many entries a feeding stream reads before a step is tried again
 abbrev pub most_at_once : ℕ
 most_at_once = 100
 
 abbrev pub feeding : Course → Slot
-feeding course = if course.back then Back else Forward
+feeding course = if course.way.back then Back else Forward
 
--- the number behind the last step that stands done
-abbrev pub next_step : Course → ℕ
-next_step course = course.first + course.done
-
--- the course with another number of steps done, with another position, or with one try fewer
+-- the course with another number of places done, with another position of a shard, or with one try fewer
 abbrev pub with_done : Course → ℕ → Course
-with_done course done = record course { done = done }
+with_done course done = record course { way = record course.way { done = done } }
 
-abbrev pub with_position : Course → ℕ → Course
-with_position course at = record course { position = at }
+abbrev pub with_position : Course → (shard position : ℕ) → Course
+with_position course shard position = record course { positions = slice_set course.positions shard position }
 
 abbrev pub one_try_fewer : Course → Course
 one_try_fewer course = record course { tries = course.tries - 1 }
 
--- where the stream that feeds on a way stands, of a shard, and of the first one as Show tells it
+-- where the stream that feeds on a way stands, as Show tells it of a shard: 0 where it tells of none
 abbrev pub feeding_position : (back : Bool) → ShownLane → ℕ
 feeding_position back lane = if back then option_map_or (λ stream. stream.position) lane.back 0 else lane.forward.position
 
-abbrev pub position_on : Shown → (back : Bool) → ℕ
-position_on shown back = option_map_or (feeding_position back) (slice_get shown.lanes.items 0) 0
+abbrev pub position_on : Shown → (back : Bool) → (shard : ℕ) → ℕ
+position_on shown back shard = option_map_or (feeding_position back) (slice_get shown.lanes.items shard) 0
 
--- what Show tells of the open way
+-- and of as many shards as there may be
+abbrev pub positions_on : Shown → (back : Bool) → List ℕ
+positions_on shown back = map (position_on shown back) (range_with_len 0 most_shards)
+
+-- what Show tells of the open way: as many shards have streams as the target has
 abbrev pub course_on : (tries : ℕ) → Shown → Way → Course
 course_on tries shown way = record {
-  back = way.back;
-  first = first_step (way_from way);
-  behind = behind_last (way_from way);
-  done = min way.done most_steps;
-  position = position_on shown way.back;
+  way = record way { shards = length shown.lanes.items; done = min way.done most_places };
+  positions = positions_on shown way.back;
   tries = tries;
 }
 
@@ -82,15 +80,21 @@ course_of tries none (Err why) = Err why
 
 -- ---- one turn
 
+-- the shard that a turn feeds
+abbrev pub shard_of : Turn → ℕ
+shard_of (Feeds shard) = shard
+shard_of other = 0
+
 -- the event that is due
 abbrev pub due : (workflow : List ℕ) → Turn → Course → Event
-due workflow Steps course = event.Step workflow course.done
-due workflow Feeds course = event.Advance workflow (feeding course) 0 course.position most_at_once
-due workflow (GivesUp why) course = event.Undo workflow course.done
+due workflow Steps course = event.Step workflow course.way.done
+due workflow (Feeds shard) course = event.Advance workflow (feeding course) shard (slice_index course.positions shard) most_at_once
+due workflow (GivesUp why) course = event.Undo workflow course.way.done
 
--- before the journal, whose step has the number 6, all is undone; behind it the controller stops
+-- before the journal all is undone; behind it the controller stops
 abbrev pub fails : Course → Refusal → Heard
-fails course why = if nat_lt 6 (next_step course) then Ends (Ok (Stopped why course.done)) else GoesOn (GivesUp why) course
+fails course why =
+    if stands_done (way_from course.way) write_journal then Ends (Ok (Stopped why course.way.done)) else GoesOn (GivesUp why) course
 
 -- it is tried again, as long as tries are left
 abbrev pub again : Turn → Course → Refusal → Heard
@@ -98,35 +102,46 @@ again turn course why = if nat_lt 1 course.tries then GoesOn turn (one_try_fewer
 
 -- the last step closes the way
 abbrev pub stepped : Course → Heard
-stepped course = if nat_lt (next_step course + 1) course.behind then GoesOn Steps (with_done course (course.done + 1)) else Ends (Ok Done)
+stepped course =
+    let way = way_from course.way in
+    if nat_lt (next_step way + 1) (behind_last way) then GoesOn Steps (with_done course (course.way.done + 1)) else Ends (Ok Done)
 
 abbrev pub step_refused : Course → Refusal → Heard
-step_refused course (refusal.Other reason.NotLevel) = again Feeds course (refusal.Other reason.NotLevel)
-step_refused course (refusal.Other (reason.Stale current)) = again Steps (with_done course (min current most_steps)) (refusal.Other (reason.Stale current))
+step_refused course (refusal.Other reason.NotLevel) = again (Feeds 0) course (refusal.Other reason.NotLevel)
+step_refused course (refusal.Other (reason.Stale current)) = again Steps (with_done course (min current most_places)) (refusal.Other (reason.Stale current))
 step_refused course (refusal.Other reason.NoWorkflow) = Ends (Err (refusal.Other reason.NoWorkflow))
 step_refused course (refusal.Other reason.NothingUnderWay) = Ends (Err (refusal.Other reason.NothingUnderWay))
 step_refused course why = fails course why
 
-abbrev pub advance_refused : Course → Refusal → Heard
-advance_refused course (refusal.Other (reason.Stale current)) = again Feeds (with_position course current) (refusal.Other (reason.Stale current))
-advance_refused course why = fails course why
+-- the streams of all shards are fed, one after the other, before the step is tried again
+abbrev pub fed : (shard : ℕ) → Course → Heard
+fed shard course = GoesOn (if nat_lt (shard + 1) course.way.shards then Feeds (shard + 1) else Steps) course
+
+abbrev pub advance_refused : (shard : ℕ) → Course → Refusal → Heard
+advance_refused shard course (refusal.Other (reason.Stale current)) =
+    again (Feeds shard) (with_position course shard current) (refusal.Other (reason.Stale current))
+advance_refused shard course why = fails course why
 
 -- the undo that leaves no step done closes the way
 abbrev pub undone : (why : Refusal) → Course → Heard
-undone why course = if nat_lt 1 course.done then GoesOn (GivesUp why) (with_done course (course.done - 1)) else Ends (Ok (Abandoned why))
+undone why course =
+    if nat_lt 1 course.way.done then GoesOn (GivesUp why) (with_done course (course.way.done - 1)) else Ends (Ok (Abandoned why))
 
 abbrev pub undo_refused : (why : Refusal) → Course → Refusal → Heard
 undo_refused why course (refusal.Other (reason.Stale current)) =
-    if nat_lt 1 course.tries then GoesOn (GivesUp why) (one_try_fewer (with_done course (min current most_steps))) else Ends (Err (refusal.Other (reason.Stale current)))
+    if nat_lt 1 course.tries then GoesOn (GivesUp why) (one_try_fewer (with_done course (min current most_places))) else Ends (Err (refusal.Other (reason.Stale current)))
 undo_refused why course other = Ends (Err other)
+
+abbrev pub heard_advance : (shard : ℕ) → Course → Answer → Heard
+heard_advance shard course (Ok taken) = fed shard (with_position course shard (next_position (slice_index course.positions shard) (Ok taken)))
+heard_advance shard course (Err why) = advance_refused shard course why
 
 -- what follows from the answer; a step is answered by no other reply
 abbrev pub heard : Turn → Course → Answer → Heard
 heard Steps course (Ok reply.Done) = stepped course
 heard Steps course (Ok other) = Ends (Err (refusal.Other reason.NothingUnderWay))
 heard Steps course (Err why) = step_refused course why
-heard Feeds course (Ok taken) = GoesOn Steps (with_position course (next_position course.position (Ok taken)))
-heard Feeds course (Err why) = advance_refused course why
+heard (Feeds shard) course answer = heard_advance shard course answer
 heard (GivesUp why) course (Ok taken) = undone why course
 heard (GivesUp why) course (Err other) = undo_refused why course other
 

@@ -1,7 +1,8 @@
 //! The worker that switches the traffic of a workflow, or reverses it.
 ghost use Rattle.std.specs.Prelude.{◌≡◌, ◌≤◌, ◌++◌, List};
 ghost use Rattle.mt_desk.specs.declared.history.Call.{Call};
-ghost use Rattle.mt_workers.specs.Controls.{Controls, Runs, begin_event, most_steps, none_open};
+ghost use Rattle.mt_names.specs.Shards.{most_shards};
+ghost use Rattle.mt_workers.specs.Controls.{Controls, Runs, begin_event, most_places, none_open};
 ghost use Rattle.mt_workers.specs.declared.turn.Turn.TheVariants.{Steps};
 
 use crate::asking::ask;
@@ -47,8 +48,8 @@ fn run<R: Wait, G: Gate, D: DeskName, W: Asks + Drop, H: Wait + Drop>(
     workflow: &WorkflowName,
     mut course: Course,
 ) -> (Pass<D>, Result<Driven, ControlFault>)
-    requires done { course.done ≤ most_steps }
-    requires behind { course.behind ≤ most_steps }
+    requires done { course.way.done ≤ most_places }
+    requires shards { course.way.shards ≤ most_shards }
     ensures client { result.0.client ≡ pass.client }
     ensures runs { (calls : List Call) × (result.0.calls.items ≡ pass.calls.items ++ calls)
         × Runs workflow.now Steps course calls result.1 }
@@ -75,8 +76,8 @@ fn run<R: Wait, G: Gate, D: DeskName, W: Asks + Drop, H: Wait + Drop>(
 
 /// Switches the traffic of some types of a workflow as a whole, or reverses it (`back`), as `drive` of mt_site does, but by calls of a
 /// desk where others ask at the same time. It begins the way; where one is open already (`F13 UnderWay`) it goes on with that one, and
-/// ends with `F13 UnderWay` if none is open any more. It takes the steps in turn. At `F18 NotLevel` the feeding stream reads at most 100
-/// entries, and the step is tried again; `F25 Stale` says where another one went on, and the controller goes on from there. Of both together
+/// ends with `F13 UnderWay` if none is open any more. It takes the steps in turn. At `F18 NotLevel` the feeding stream of each shard reads at
+/// most 100 entries, in the order of the shards, and the step is tried again; `F25 Stale` says where another one went on, and the controller goes on from there. Of both together
 /// there are fewer than `tries`: the last one ends it as any other refusal of a step or of the stream does. Before the journal all is undone,
 /// and the answer is `Abandoned`; behind it the way stays open, and the answer is `Stopped`. It ends with a refusal if the begin or a Show is
 /// refused, if a step or an undo is as `F7 NoWorkflow` or `F14 NothingUnderWay`, or if an undo is for any other cause but `F25 Stale` with a

@@ -1,5 +1,6 @@
 //! The worker that advances a stream.
-ghost use Rattle.std.specs.Prelude.{◌≡◌, ◌+◌, ◌++◌, List, ℕ};
+ghost use Rattle.std.specs.Prelude.{◌≡◌, ◌≤◌, ◌+◌, ◌++◌, List, ℕ};
+ghost use Rattle.mt_names.specs.Shards.{most_shards};
 ghost use Rattle.mt_desk.specs.declared.history.Call.{Call};
 ghost use Rattle.mt_workers.specs.Advances.{IsAdvancing, next_position, one_if_taken};
 
@@ -7,7 +8,7 @@ use crate::Gate;
 use crate::asking::ask;
 use mt_desk::{Answer, Desk, DeskName, Pass};
 use mt_event::{Event, Reason, Refusal, Reply};
-use mt_names::{Position, WorkflowName};
+use mt_names::{MAX_SHARDS, Position, WorkflowName};
 use mt_watch::Asks;
 use mt_workflow::Slot;
 use std::sync::Wait;
@@ -33,10 +34,11 @@ fn one_if_taken(answer: &Answer) -> u64
     }
 }
 
-/// Advances a stream of a workflow, that of its target's first shard, again and again, so many times at most, each time by at most `max`
-/// rows or entries: the first time at position 0, and then where the last answer says that it is. A refusal takes a turn too; `F25 Stale`
-/// says where the stream is. It gives its pass back, and the number of advances that were taken. It ends early only where the desk refuses
-/// a call, with its `DeskFault` told by nobody. (Vitess: a VReplication stream, which goes on by itself)
+/// Advances the streams of a workflow that go one way, those of the first so many shards of its target (1 to 8): one after the other, and
+/// then from the first on again, so many times in all at most, each time by at most `max` rows or entries. The first time in a shard it is at
+/// position 0, and then where the last answer there says that the stream is. A refusal takes a turn too; `F25 Stale` says where the stream is.
+/// It gives its pass back, and the number of advances that were taken. It ends early only where the desk refuses a call, with its `DeskFault`
+/// told by nobody. (Vitess: VReplication streams, which go on by themselves)
 pub fn stream_worker<R: Wait, G: Gate, D: DeskName, W: Asks + Drop, H: Wait + Drop>(
     rt: &R,
     gate: &G,
@@ -45,27 +47,33 @@ pub fn stream_worker<R: Wait, G: Gate, D: DeskName, W: Asks + Drop, H: Wait + Dr
     worker: u16,
     workflow: &WorkflowName,
     stream: Slot,
+    shards: u8,
     max: u16,
     turns: u64,
 ) -> (Pass<D>, u64)
+    requires some { 1 ≤ shards }
+    requires few { shards ≤ most_shards }
     ensures client { result.0.client ≡ pass.client }
     ensures gains { (calls : List Call) × (result.0.calls.items ≡ pass.calls.items ++ calls)
-        × IsAdvancing workflow.now stream max turns calls result.1 }
+        × IsAdvancing workflow.now stream shards max turns calls result.1 }
 {
-    let mut at = 0;
+    let mut positions = [0; MAX_SHARDS];
     let mut taken = 0;
     for line in 0..turns {
+        let shard = (line % u64::from(shards)) as u8;
+        let place = usize::from(shard);
+        let at = positions[place];
         let event = Event::Advance {
             workflow: workflow.copied(),
             stream,
-            shard: 0,
+            shard,
             at,
             max,
         };
         let Ok(answer) = ask(rt, gate, desk, &mut pass, worker, line, event) else {
             return (pass, taken);
         };
-        at = next_position(at, &answer);
+        positions[place] = next_position(at, &answer);
         taken += one_if_taken(&answer);
     }
     (pass, taken)

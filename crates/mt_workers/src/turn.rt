@@ -1,13 +1,14 @@
 //! The turns of a controller: what it asks for, and what follows from the answer.
-ghost use Rattle.std.specs.Prelude.{◌≡◌};
-ghost use Rattle.mt_workers.specs.Controls.{advance_refused, again, due, fails, heard, step_refused, stepped, undo_refused, undone};
+ghost use Rattle.std.specs.Prelude.{◌≡◌, ◌+◌, ◌<◌, ◌≤◌};
+ghost use Rattle.mt_names.specs.Shards.{most_shards};
+ghost use Rattle.mt_workers.specs.Controls.{advance_refused, again, due, fails, fed, heard, heard_advance, most_places, shard_of, step_refused, stepped, undo_refused, undone};
 
-use crate::course::{Course, steps_told};
+use crate::course::{Course, places_told};
 use crate::stream::next_position;
 use mt_desk::Answer;
 use mt_event::{Driven, Event, Reason, Refusal, Reply};
 use mt_names::WorkflowName;
-use mt_workflow::{Slot, Way};
+use mt_workflow::Slot;
 
 /// How many entries are read before a step is tried again.
 const MOST_AT_ONCE: u16 = 100;
@@ -17,8 +18,8 @@ const MOST_AT_ONCE: u16 = 100;
 pub(crate) enum Turn {
     /// The next step.
     Steps,
-    /// An advance of the feeding stream, before the step is tried again.
-    Feeds,
+    /// An advance of the feeding stream of a shard, and then of those behind it, before the step is tried again.
+    Feeds(u8),
     /// An undo, after this refusal, which it will tell.
     GivesUp(Refusal),
 }
@@ -34,21 +35,22 @@ pub(crate) enum Heard {
 
 /// The event that is due.
 pub(crate) fn due(workflow: &WorkflowName, turn: &Turn, course: Course) -> Event
+    requires { shard_of turn.now < most_shards }
     ensures { result ≡ due workflow.now turn.now course }
 {
     let workflow = workflow.copied();
-    let at = u64::from(course.done);
+    let at = u64::from(course.way.done);
     match turn {
         Turn::Steps => Event::Step { workflow, at },
-        Turn::Feeds => Event::Advance {
+        Turn::Feeds(shard) => Event::Advance {
             workflow,
-            stream: if course.back {
+            stream: if course.way.back {
                 Slot::Back
             } else {
                 Slot::Forward
             },
-            shard: 0,
-            at: course.position,
+            shard: *shard,
+            at: course.positions[usize::from(*shard)],
             max: MOST_AT_ONCE,
         },
         Turn::GivesUp(_) => Event::Undo { workflow, at },
@@ -59,8 +61,8 @@ pub(crate) fn due(workflow: &WorkflowName, turn: &Turn, course: Course) -> Event
 fn fails(course: Course, refusal: Refusal) -> Heard
     ensures { result ≡ fails course refusal }
 {
-    if u16::from(Way::JOURNAL) < u16::from(course.first) + u16::from(course.done) {
-        Heard::Ends(Ok(Driven::Stopped(refusal, u64::from(course.done))))
+    if course.way.is_past_journal() {
+        Heard::Ends(Ok(Driven::Stopped(refusal, u64::from(course.way.done))))
     } else {
         Heard::GoesOn(Turn::GivesUp(refusal), course)
     }
@@ -85,16 +87,12 @@ fn again(turn: Turn, course: Course, refusal: Refusal) -> Heard
 
 /// What follows from a step that is taken: the last one closes the way.
 fn stepped(course: Course) -> Heard
+    requires { course.way.done ≤ most_places }
     ensures { result ≡ stepped course }
 {
-    if u16::from(course.first) + u16::from(course.done) + 1 < u16::from(course.behind) {
-        Heard::GoesOn(
-            Turn::Steps,
-            Course {
-                done: course.done + 1,
-                ..course
-            },
-        )
+    let way = course.way;
+    if way.next_step() + 1 < u16::from(way.behind_last()) {
+        Heard::GoesOn(Turn::Steps, course.with_done(way.done + 1))
     } else {
         Heard::Ends(Ok(Driven::Done))
     }
@@ -106,16 +104,13 @@ fn step_refused(course: Course, refusal: Refusal) -> Heard
 {
     match refusal {
         Refusal::Other(Reason::NotLevel) => again(
-            Turn::Feeds,
+            Turn::Feeds(0),
             course,
             Refusal::Other(Reason::NotLevel),
         ),
         Refusal::Other(Reason::Stale(current)) => again(
             Turn::Steps,
-            Course {
-                done: steps_told(current),
-                ..course
-            },
+            course.with_done(places_told(current)),
             Refusal::Other(Reason::Stale(current)),
         ),
         Refusal::Other(Reason::NoWorkflow) => Heard::Ends(Err(Refusal::Other(Reason::NoWorkflow))),
@@ -126,20 +121,42 @@ fn step_refused(course: Course, refusal: Refusal) -> Heard
     }
 }
 
-/// What follows from the refusal of an advance.
-fn advance_refused(course: Course, refusal: Refusal) -> Heard
-    ensures { result ≡ advance_refused course refusal }
+/// What follows from an advance in a shard that is taken: the next shard's stream is fed, and behind the last one the step is tried again.
+fn fed(shard: u8, course: Course) -> Heard
+    requires { shard < most_shards }
+    ensures { result ≡ fed shard course }
+{
+    if shard + 1 < course.way.shards {
+        Heard::GoesOn(Turn::Feeds(shard + 1), course)
+    } else {
+        Heard::GoesOn(Turn::Steps, course)
+    }
+}
+
+/// What follows from the refusal of an advance in a shard.
+fn advance_refused(shard: u8, course: Course, refusal: Refusal) -> Heard
+    requires { shard < most_shards }
+    ensures { result ≡ advance_refused shard course refusal }
 {
     match refusal {
         Refusal::Other(Reason::Stale(current)) => again(
-            Turn::Feeds,
-            Course {
-                position: current,
-                ..course
-            },
+            Turn::Feeds(shard),
+            course.with_position(shard, current),
             Refusal::Other(Reason::Stale(current)),
         ),
         refusal => fails(course, refusal),
+    }
+}
+
+/// What follows from the answer to an advance in a shard.
+fn hear_advance(shard: u8, course: Course, answer: Answer) -> Heard
+    requires { shard < most_shards }
+    ensures { result ≡ heard_advance shard course answer }
+{
+    let position = next_position(course.positions[usize::from(shard)], &answer);
+    match answer {
+        Ok(_) => fed(shard, course.with_position(shard, position)),
+        Err(refusal) => advance_refused(shard, course, refusal),
     }
 }
 
@@ -147,14 +164,9 @@ fn advance_refused(course: Course, refusal: Refusal) -> Heard
 fn undone(why: Refusal, course: Course) -> Heard
     ensures { result ≡ undone why course }
 {
-    if course.done > 1 {
-        Heard::GoesOn(
-            Turn::GivesUp(why),
-            Course {
-                done: course.done - 1,
-                ..course
-            },
-        )
+    let done = course.way.done;
+    if done > 1 {
+        Heard::GoesOn(Turn::GivesUp(why), course.with_done(done - 1))
     } else {
         Heard::Ends(Ok(Driven::Abandoned(why)))
     }
@@ -168,9 +180,8 @@ fn undo_refused(why: Refusal, course: Course, refusal: Refusal) -> Heard
         Refusal::Other(Reason::Stale(current)) if course.tries > 1 => Heard::GoesOn(
             Turn::GivesUp(why),
             Course {
-                done: steps_told(current),
                 tries: course.tries - 1,
-                ..course
+                ..course.with_done(places_told(current))
             },
         ),
         refusal => Heard::Ends(Err(refusal)),
@@ -179,16 +190,16 @@ fn undo_refused(why: Refusal, course: Course, refusal: Refusal) -> Heard
 
 /// What follows from the answer to the event that was due.
 pub(crate) fn hear(turn: Turn, course: Course, answer: Answer) -> Heard
+    requires shard { shard_of turn < most_shards }
+    requires done { course.way.done ≤ most_places }
     ensures { result ≡ heard turn course answer }
 {
-    let position = next_position(course.position, &answer);
     match (turn, answer) {
         (Turn::Steps, Ok(Reply::Done)) => stepped(course),
         // (a step is answered by no other reply)
         (Turn::Steps, Ok(_)) => Heard::Ends(Err(Refusal::Other(Reason::NothingUnderWay))),
         (Turn::Steps, Err(refusal)) => step_refused(course, refusal),
-        (Turn::Feeds, Ok(_)) => Heard::GoesOn(Turn::Steps, Course { position, ..course }),
-        (Turn::Feeds, Err(refusal)) => advance_refused(course, refusal),
+        (Turn::Feeds(shard), answer) => hear_advance(shard, course, answer),
         (Turn::GivesUp(why), Ok(_)) => undone(why, course),
         (Turn::GivesUp(why), Err(refusal)) => undo_refused(why, course, refusal),
     }

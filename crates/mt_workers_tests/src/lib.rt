@@ -11,6 +11,8 @@ mod opened;
 #[cfg(test)]
 mod racing;
 #[cfg(test)]
+mod sharded;
+#[cfg(test)]
 mod together;
 #[cfg(test)]
 mod turns;

@@ -3,6 +3,7 @@ ghost use Rattle.std.specs.Prelude.{◌≡◌, IfOk, IfSome};
 ghost use Rattle.mt_site.specs.Stood.{IsSiteWith};
 ghost use Rattle.mt_watch.specs.Notices.{notice_of};
 
+use crate::sharded::{Sharded, over_shards};
 use crate::together::two_controllers;
 use crate::turns::{Turns, in_turn};
 use arrayvec::ArrayVec;
@@ -26,10 +27,32 @@ pub enum Trial {
     InTurn(Turns),
     /// Two controllers and two clients at once; whether the second controller undoes what the first does.
     TwoControllers(bool),
+    /// Workers over a target of two shards.
+    OverShards(Sharded),
 }
 
-/// The events before a desk is opened.
-fn events() -> Result<[Event; 5], NameFault> {
+/// The shards of the target in a trial.
+fn target_shards(trial: Trial) -> Result<ShardList, NameFault> {
+    match trial {
+        Trial::OverShards(_) => ShardList::parse("-80,80-"),
+        _ => Ok(ShardList::unsharded()),
+    }
+}
+
+/// The copy of a shard, of which no row is there yet.
+fn copy_of(shard: u8) -> Result<Event, NameFault> {
+    Ok(Event::Advance {
+        workflow: WorkflowName::parse("mv")?,
+        stream: Slot::Forward,
+        shard,
+        at: 0,
+        max: 100,
+    })
+}
+
+/// The events before a desk is opened, the last two of which copy the first shard and the last one.
+fn events(shards: ShardList) -> Result<[Event; 6], NameFault> {
+    let last = shards.as_slice().len().saturating_sub(1) as u8;
     let mut tables = ArrayVec::new_in(());
     tables.push(TableName::parse("corder")?);
     Ok([
@@ -39,7 +62,7 @@ fn events() -> Result<[Event; 5], NameFault> {
         },
         Event::AddKeyspace {
             keyspace: KeyspaceName::parse("customer")?,
-            shards: ShardList::unsharded(),
+            shards,
         },
         Event::AddTable {
             keyspace: KeyspaceName::parse("commerce")?,
@@ -51,13 +74,8 @@ fn events() -> Result<[Event; 5], NameFault> {
             target: KeyspaceName::parse("customer")?,
             tables,
         },
-        Event::Advance {
-            workflow: WorkflowName::parse("mv")?,
-            stream: Slot::Forward,
-            shard: 0,
-            at: 0,
-            max: 100,
-        },
+        copy_of(0)?,
+        copy_of(last)?,
     ])
 }
 
@@ -73,11 +91,14 @@ fn applies<W: Asks>(site: &mut Site<W>, events: &[Event]) -> bool
     true
 }
 
-/// The controller behind these events.
-fn site_of<W: Asks + Drop>(alloc: Global, watchers: W) -> Option<Site<W>>
+/// The controller behind the events before a trial.
+fn site_of<W: Asks + Drop>(alloc: Global, watchers: W, trial: Trial) -> Option<Site<W>>
     ensures { IfSome result (λ site. IsSiteWith (W.scopes site.watchers) site.core) }
 {
-    let Ok(events) = events() else {
+    let Ok(shards) = target_shards(trial) else {
+        return None;
+    };
+    let Ok(events) = events(shards) else {
         return None;
     };
     let mut site = Site::open(alloc, watchers);
@@ -148,6 +169,7 @@ fn goes<D: DeskName + Send + Sync, W: Asks + Drop + Send, R: Threads + Wait + Sy
     match trial {
         Trial::InTurn(turns) => in_turn(rt, desk, turns),
         Trial::TwoControllers(is_undoing) => two_controllers(rt, alloc, desk, is_undoing),
+        Trial::OverShards(sharded) => over_shards(rt, alloc, desk, sharded),
     }
 }
 
@@ -183,7 +205,7 @@ fn watched<W: Asks + Drop + Send, R: Threads + Wait + Sync>(
     trial: Trial,
 ) -> bool {
     let (blank, opened) = (Blank::new(1), Opened::new());
-    match site_of(alloc, watchers) {
+    match site_of(alloc, watchers, trial) {
         Some(site) => at_a_desk::<Brand, W, R>(rt, alloc, blank, opened, site, trial),
         None => false,
     }

@@ -15,31 +15,36 @@ use std::sync::Wait;
 use std::thread::{Threads, join};
 
 /// How many rows a client inserts.
-const ROWS: u64 = 20;
+pub const ROWS: u64 = 32;
 
 /// How often a controller that undoes asks Show.
 const LOOKS: u32 = 100;
 
-/// Inserts of rows behind a key by the table's name.
-fn inserts(alloc: Global, first: u64) -> Option<Vec<Line>> {
+/// The key of a row of a client, of which half stand in either half of all keys.
+pub fn row_key(client: u16, number: u64) -> u64 {
+    (number << 59) | u64::from(client)
+}
+
+/// Inserts of a client's rows by the table's name.
+fn inserts(alloc: Global, client: u16) -> Option<Vec<Line>> {
     let mut lines = Vec::new(alloc);
     for number in 0..ROWS {
         let key = RuleKey::parse("corder").ok()?;
-        let op = Op::Insert(first.saturating_add(number), Value::new());
+        let op = Op::Insert(row_key(client, number), Value::new());
         lines.push(Line::Put(key, op)).ok()?;
     }
     Some(lines)
 }
 
 /// A client inserts its rows. Answers its pass, if all of its lines were sent.
-fn writes<R: Wait, D: DeskName, W: Asks + Drop, H: Wait + Drop>(
+pub fn writes<R: Wait, D: DeskName, W: Asks + Drop, H: Wait + Drop>(
     rt: &R,
     alloc: Global,
     desk: &Desk<D, W, H>,
     sender: &Sender<Message>,
     client: u16,
 ) -> Option<Pass<D>> {
-    let lines = inserts(alloc, u64::from(client).saturating_mul(1000))?;
+    let lines = inserts(alloc, client)?;
     let (Ok(pass), Ok(router)) = (desk.pass(rt, client), desk.router(rt)) else {
         return None;
     };
@@ -200,7 +205,7 @@ fn is_switched_at_last<R: Wait, D: DeskName, W: Asks + Drop, H: Wait + Drop>(
 }
 
 /// Whether four passes are gathered.
-fn are_gathered<R: Wait, D: DeskName, W: Asks + Drop, H: Wait + Drop>(
+pub fn are_gathered<R: Wait, D: DeskName, W: Asks + Drop, H: Wait + Drop>(
     rt: &R,
     alloc: Global,
     desk: &Desk<D, W, H>,

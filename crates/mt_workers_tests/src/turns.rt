@@ -222,7 +222,7 @@ fn are_taken<R: Wait, D: DeskName, W: Asks + Drop, H: Wait + Drop>(
     let Ok(pass) = desk.pass(rt, 1) else {
         return false;
     };
-    let (pass, taken) = stream_worker(rt, &NoGate, desk, pass, 0, &name, Slot::Forward, 100, 2);
+    let (pass, taken) = stream_worker(rt, &NoGate, desk, pass, 0, &name, Slot::Forward, 1, 100, 2);
     drop(pass);
     taken == 2
 }

@@ -1,17 +1,20 @@
 -- What is asked for of a workflow is answered, once its name is read, and its types are.
 use Rattle.std.proofs.Common.{false, refl, true}
+use Rattle.mt_names.specs.Shards.{KeyRange}
 use Rattle.mt_plain.specs.Events as plain
-use Rattle.mt_plain.specs.Script.{drive, event}
+use Rattle.mt_plain.specs.Script.{Request, advance_in, drive, event}
 use Rattle.mt_script.specs.declared.lines.WorkflowAsked.TheVariants as asked
 use Rattle.mt_workflow.specs.Workflows.{stream_name}
-use Rattle.mt_run.proofs.AskLemmas.{drive_alike, types_read, workflow_read}
+use Rattle.mt_run.proofs.AskLemmas.{drive_alike, range_read, types_read, workflow_read}
 use Rattle.mt_run.proofs.asking.workflow.Goals as goal
 
-pub returns-in-Advance-clause-named : goal.returns-in-Advance-clause-named
-returns-in-Advance-clause-named g c =
+pub returns-in_ok-range-in-Advance-clause-named : goal.returns-in_ok-range-in-Advance-clause-named
+returns-in_ok-range-in-Advance-clause-named g c =
     let w = c.in_ok-workflow.field-0 in
-    let request = event (plain.advance w (stream_name c.in-Advance.stream) 0 c.in-Advance.at c.in-Advance.max) in
-    (request, workflow_read c.args.name.now c.args.asked (asked.Advance c.in-Advance.stream c.in-Advance.at c.in-Advance.max) w request c.in-Advance.is c.in_ok-workflow.ensures.value refl, c.advance.ensures.answered (g.A.Asks.scopes c.args.cached.now.site.watchers))
+    let words = c.in-Advance.words in
+    let make : KeyRange → Request = λ r. advance_in w (stream_name words.stream) r words.at words.max in
+    let range = c.in_ok-range-in-Advance.range in
+    (make range, workflow_read c.args.name.now c.args.asked (asked.Advance words) w (make range) c.in-Advance.is c.in_ok-workflow.ensures.value (range_read make words.range.now range c.in_ok-range-in-Advance.ensures.value), c.advance.ensures.answered (g.A.Asks.scopes c.args.cached.now.site.watchers))
 
 pub returns-in_ok-parse-in-BeginSwitch-clause-named : goal.returns-in_ok-parse-in-BeginSwitch-clause-named
 returns-in_ok-parse-in-BeginSwitch-clause-named g c =

@@ -57,7 +57,7 @@ returns-in-Err-clause-runs g c = λ p stands.
           (line_named scopes p line old w.create-named.new.cached.site.core held before w.create-named.new.waiting.items (language.create w.in-Create.words.workflow.now w.in-Create.words.source.now w.in-Create.words.target.now w.in-Create.words.tables.now) w.create-named.result w.in-Create.ensures stands w.create-named.ensures.named)
       | in-Keyspace w ↦
           rw (w.named-is, w.cached-is, w.waiting-is)
-          (line_named scopes p line old w.add_keyspace-named.new.cached.site.core held before w.add_keyspace-named.new.waiting.items (language.keyspace w.in-Keyspace.name.now) w.add_keyspace-named.result w.in-Keyspace.ensures stands w.add_keyspace-named.ensures.named)
+          (line_named scopes p line old w.add_keyspace-named.new.cached.site.core held before w.add_keyspace-named.new.waiting.items (language.keyspace w.in-Keyspace.name.now w.in-Keyspace.shards.now) w.add_keyspace-named.result w.in-Keyspace.ensures stands w.add_keyspace-named.ensures.named)
       | in-Table w ↦
           rw (w.named-is, w.cached-is, w.waiting-is)
           (line_named scopes p line old w.add_table-named.new.cached.site.core held before w.add_table-named.new.waiting.items (language.table w.in-Table.keyspace.now w.in-Table.name.now) w.add_table-named.result w.in-Table.ensures stands w.add_table-named.ensures.named)
@@ -94,7 +94,7 @@ returns-in_default-clause-runs g c = λ p stands.
           (line_named scopes p line old w.create-named.new.cached.site.core held before w.create-named.new.waiting.items (language.create w.in-Create.words.workflow.now w.in-Create.words.source.now w.in-Create.words.target.now w.in-Create.words.tables.now) w.create-named.result w.in-Create.ensures stands w.create-named.ensures.named)
       | in-Keyspace w ↦
           rw (w.named-is, w.cached-is, w.waiting-is)
-          (line_named scopes p line old w.add_keyspace-named.new.cached.site.core held before w.add_keyspace-named.new.waiting.items (language.keyspace w.in-Keyspace.name.now) w.add_keyspace-named.result w.in-Keyspace.ensures stands w.add_keyspace-named.ensures.named)
+          (line_named scopes p line old w.add_keyspace-named.new.cached.site.core held before w.add_keyspace-named.new.waiting.items (language.keyspace w.in-Keyspace.name.now w.in-Keyspace.shards.now) w.add_keyspace-named.result w.in-Keyspace.ensures stands w.add_keyspace-named.ensures.named)
       | in-Table w ↦
           rw (w.named-is, w.cached-is, w.waiting-is)
           (line_named scopes p line old w.add_table-named.new.cached.site.core held before w.add_table-named.new.waiting.items (language.table w.in-Table.keyspace.now w.in-Table.name.now) w.add_table-named.result w.in-Table.ensures stands w.add_table-named.ensures.named)

@@ -8,18 +8,17 @@ use Rattle.mt_workers.proofs.controlling.run.Goals as goal
 pub turns-preserved : goal.turns-preserved
 turns-preserved g c =
     let now = c.turns.invariant in
-    let less = goes_on_less c.turns.turn c.turns.course c.in-Ok.answer c.in-GoesOn.next c.in-GoesOn.further now.done now.behind c.in-GoesOn.ensures in
+    let less = goes_on_less c.turns.turn c.turns.course c.in-Ok.answer c.in-GoesOn.next c.in-GoesOn.further now.sound c.in-GoesOn.ensures in
     record {
       client = c.in-Ok.ensures.client ∙ now.client;
-      done = less.1;
-      behind = less.2;
+      sound = less.1;
       way = goes_further c.args.workflow.now c.args.course c.args.pass.calls.items c.turns.pass.calls.items c.ask.new.pass.calls.items c.turns.turn c.turns.course
           (call c.due-event.result c.in-Ok.answer) c.in-GoesOn.next c.in-GoesOn.further now.way c.due-event.ensures c.in-Ok.ensures.adds c.in-GoesOn.ensures;
     }
 
 pub turns-smaller : goal.turns-smaller
 turns-smaller g c =
-    (goes_on_less c.turns.turn c.turns.course c.in-Ok.answer c.in-GoesOn.next c.in-GoesOn.further c.turns.invariant.done c.turns.invariant.behind c.in-GoesOn.ensures).0
+    (goes_on_less c.turns.turn c.turns.course c.in-Ok.answer c.in-GoesOn.next c.in-GoesOn.further c.turns.invariant.sound c.in-GoesOn.ensures).0
 
 pub returns-in-Err-clause-runs : goal.returns-in-Err-clause-runs
 returns-in-Err-clause-runs g c =

@@ -1,14 +1,12 @@
 -- The calls so far are those that were due, and less is left with each turn.
-use Rattle.std.proofs.Common.{◌≡◌, ◌≤◌}
-use Rattle.mt_workers.specs.Controls.{most_steps}
-use Rattle.mt_workers.proofs.RunLemmas.{IsOnCourse, size}
+use Rattle.std.proofs.Common.{◌≡◌}
+use Rattle.mt_workers.proofs.RunLemmas.{IsOnCourse, IsSound, size}
 use Rattle.mt_workers.proofs.controlling.run.Given as goal
 
 abbrev pub invariant-turns : goal.invariant-turns
 invariant-turns g l = record {
   client : l.pass.client ≡ l.fn.pass.client;
-  done : l.course.done ≤ most_steps;
-  behind : l.course.behind ≤ most_steps;
+  sound : IsSound l.turn l.course;
   way : IsOnCourse l.workflow l.fn.course l.fn.pass.calls.items l.pass.calls.items l.turn l.course;
 }
 
