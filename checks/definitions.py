@@ -5,6 +5,7 @@ aren't tested.
 """
 import functools
 import json
+import pickle
 from dataclasses import dataclass, field
 
 from ranges import Refused, ranges_of, read_range, read_shards, refuse_if, shard_of
@@ -203,6 +204,10 @@ class Plain:
     logs: dict = field(default_factory=dict)
     lives: list = field(default_factory=list)
     journal: int = 0
+
+    def copied(self):
+        """An equal state that shares nothing with it; `copy.deepcopy` takes several times as long."""
+        return pickle.loads(pickle.dumps(self))
 
     # ---- what is there
 

@@ -5,22 +5,40 @@ import pickle
 import subprocess
 
 import definitions
+from ranges import ranges_of, stream_in
 
 KEYSPACES = ["commerce", "customer"]
 SETS = [frozenset(them) for n in range(4) for them in itertools.combinations(definitions.TYPES, n)]
 
-SETTING = """keyspace commerce
-keyspace customer
+UNSHARDED, TWO_SHARDS = ["-"], ["-80", "80-"]
+HIGH = 2**63 + 2  # a key of the second shard of two
+
+
+def setting(shards):
+    """What is there before a move to a target with these shards."""
+    return f"""keyspace commerce
+keyspace customer {",".join(shards)}
 table commerce corder
 table commerce cart
 table commerce spare
 rule commerce.corder commerce.corder
 rule free commerce.spare
 insert corder 1 a
-insert corder 2 b
+insert corder {HIGH} b
 insert cart 1 c""".splitlines()
-COPIED = [*SETTING, "create mv commerce customer corder,cart", "advance mv forward 3 100"]
-ROWS = [("corder", 1), ("corder", 2), ("corder", 3), ("cart", 1)]
+
+
+def copies(shards):
+    """The turns that copy the rows of the setting."""
+    return [f"advance mv {stream_in(shards, shard, 'forward')} 3 100" for shard in range(len(shards))]
+
+
+def copied(shards):
+    """A move that has copied all rows."""
+    return [*setting(shards), "create mv commerce customer corder,cart", *copies(shards)]
+
+
+ROWS = [("corder", 1), ("corder", HIGH), ("corder", 3), ("cart", 1)]
 LOOK = [
     *("show mv", "dump", "rules", "get free 1"),
     *(f"get {side}{table}@{of} {key}" for table, key in ROWS for side in ("", "commerce.", "customer.") for of in definitions.TYPES),
@@ -61,10 +79,12 @@ class Script:
         return self.workflow.way if self.workflow else None
 
     def advance(self, stream):
-        """A turn of a stream, where it runs."""
-        slot = self.workflow.slot(stream)
-        if slot and slot[0] == "running":
-            self.ask(f"advance mv {stream} {slot[1]} 100")
+        """A turn of the stream of each shard, where it runs."""
+        shards = ranges_of(self.workflow.cuts)
+        for shard in range(len(shards)):
+            slot = self.workflow.slot(stream, shard)
+            if slot and slot[0] == "running":
+                self.ask(f"advance mv {stream_in(shards, shard, stream)} {slot[1]} 100")
 
     def step(self):
         """The next step; before one that may find writes missing, a turn of the stream that brings them."""
@@ -81,12 +101,12 @@ class Script:
             self.ask(f"undo mv {self.way.done}")
 
 
-def run(program, lines):
+def run(program, lines, keyspaces=KEYSPACES):
     """What the program answers to each line, and tells on standard error."""
     with os.fdopen(os.memfd_create("script"), "w+") as script:
         script.write("".join(f"{line}\n" for line in lines))
         script.seek(0)
-        ended = subprocess.run([program, "run", *KEYSPACES], stdin=script, stdout=subprocess.PIPE, stderr=subprocess.STDOUT, text=True, close_fds=False, timeout=60)
+        ended = subprocess.run([program, "run", *keyspaces], stdin=script, stdout=subprocess.PIPE, stderr=subprocess.STDOUT, text=True, close_fds=False, timeout=60)
     return [*ended.stdout.splitlines(), *[f"status {ended.returncode}"] * bool(ended.returncode)]
 
 

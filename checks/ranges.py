@@ -50,6 +50,11 @@ def ranges_of(cuts):
     return [f"{start}-{end}" for start, end in zip(["", *cuts], [*cuts, ""])]
 
 
+def stream_in(ranges, shard, name):
+    """How a line names the stream of a shard: with its range where there are several."""
+    return name + f"/{ranges[shard]}" * (len(ranges) > 1)
+
+
 def shard_of(cuts, key):
     """The place of the shard in which a key stands."""
     return sum(bound_value(cut) <= key for cut in cuts)
