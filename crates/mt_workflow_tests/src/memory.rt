@@ -19,8 +19,8 @@ fn topology_of(alloc: Global, dump: &str) -> Result<Topology, TopologyFault> {
     }
 }
 
-/// What a try makes: whether a workflow of these tables has them, and how long its part is; or whether it is refused for want of
-/// memory.
+/// What a try makes: whether a workflow of these tables has them, and how long its part is; or whether it is refused as there
+/// is no memory.
 fn made_once(
     alloc: Global,
     topology: &Topology,
@@ -54,7 +54,8 @@ fn want_of_memory_is_no_other_answer(rt: HostRuntime) -> Result<(), Fail> {
     Ok(())
 }
 
-/// Whether a workflow that moves a table to the keyspace of a case has its lanes, made in one try; or whether it is refused for want of memory.
+/// Whether a new workflow that moves a table to the keyspace of a case has a lane for each of its shards; or whether it is refused as there is
+/// no memory.
 fn laned_once(
     alloc: Global,
     topology: &Topology,
