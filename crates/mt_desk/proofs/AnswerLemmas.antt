@@ -12,7 +12,7 @@ use Rattle.mt_event.specs.declared.reply.Reply.{Reply}
 use Rattle.mt_event.specs.declared.reply.Reply.TheVariants as reply
 use Rattle.mt_event.specs.Events.{answer_from}
 use Rattle.mt_event.specs.Reasons.{done_by}
-use Rattle.mt_kept.specs.Answers.{needs_room, read_answer, write_answer}
+use Rattle.mt_event.specs.CompactAnswers.{needs_room, read_answer, write_answer}
 use Rattle.mt_model.specs.declared.entries.Scope.{Scope}
 use Rattle.mt_model.specs.Rows.{RowValue}
 use Rattle.mt_plain.specs.Answers.{Answers}
@@ -20,8 +20,8 @@ use Rattle.mt_plain.specs.Events.{Event, Refusal, Way, cancel, undo, nothing_und
 use Rattle.mt_plain.specs.Plain.{Live, Plain, live_at, stands_done, write_journal}
 use Rattle.mt_plain.specs.Refuse.{cancel_refusal, in_workflow, or_else, refusal_of, refuse_if, undo_refusal}
 use Rattle.mt_site.specs.ByHand.{read_from}
-use Rattle.mt_site.specs.Stood.{IsSiteWith}
-use Rattle.mt_site_state.specs.Ways.{SiteState, SiteSteps}
+use Rattle.mt_site.specs.Stood.{IsCoreWith}
+use Rattle.mt_stands.specs.Ways.{CoreState, CoreSteps}
 use Rattle.mt_desk.specs.Room.{gives_up, is_undo_or_cancel}
 
 -- ---- refusals that tell a name
@@ -77,13 +77,13 @@ short_answer p e is (Err (refusal.TargetHasTable table)) given = absurd (not_tol
 short_answer p e is (Err (refusal.Other reason)) given = refl
 
 -- from whatever state the controller stands for
-pub answer_in_place : (scopes : List Scope) (now later : SiteState) → IsSiteWith scopes now → (e : Event) (a : Result Reply code_refusal.Refusal) → SiteSteps scopes now e (answer_from a) later
+pub answer_in_place : (scopes : List Scope) (now later : CoreState) → IsCoreWith scopes now → (e : Event) (a : Result Reply code_refusal.Refusal) → CoreSteps scopes now e (answer_from a) later
     → is_undo_or_cancel e ≡ true → needs_room a ≡ false
 answer_in_place scopes now later stood e a step is = ∥∥₁_elim stood (hlevel props) (λ (p, stands). short_answer p e is a ((step p stands).0))
 
 -- ---- what gives a move up
 
-pub up_is_short : (s : SiteState) (e : Event) → gives_up s e ≡ true → is_undo_or_cancel e ≡ true
+pub up_is_short : (s : CoreState) (e : Event) → gives_up s e ≡ true → is_undo_or_cancel e ≡ true
 up_is_short s (undo workflow at) is = refl
 up_is_short s (cancel workflow) is = refl
 up_is_short s other is = absurd (true≢false (sym is))

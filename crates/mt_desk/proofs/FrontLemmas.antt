@@ -17,7 +17,7 @@ use Rattle.mt_plain.specs.Serve.{IsServed}
 use Rattle.mt_routes.specs.declared.publication.Publication.{Publication}
 use Rattle.mt_routes.specs.Places.{Agrees, AreRoutes, PlacesState, Shows, with_entry}
 use Rattle.mt_routes.specs.Publications.{front_of, last_front, publication}
-use Rattle.mt_site_state.specs.Ways.{SiteStands, SiteState}
+use Rattle.mt_stands.specs.Ways.{CoreStands, CoreState}
 use Rattle.mt_desk.specs.declared.history.Line.{Line}
 use Rattle.mt_desk.specs.declared.fault.DeskFault.TheVariants.{Memory}
 use Rattle.mt_desk.specs.Fronts.{AreFronts, Changes, LeavesPending, Published, Tells, publication_from}
@@ -39,7 +39,7 @@ publications_more p h l qs are =
       fronts = are.fronts;
     }
 
-fronts_more : (scopes : List Scope) (opening : SiteState) (lines : List Line) (l : Line) (list : List Publication) → AreFronts scopes opening lines list → AreFronts scopes opening (lines ++ l ∷ []) list
+fronts_more : (scopes : List Scope) (opening : CoreState) (lines : List Line) (l : Line) (list : List Publication) → AreFronts scopes opening lines list → AreFronts scopes opening (lines ++ l ∷ []) list
 fronts_more scopes opening lines l list are =
     record {
       within = (let a = are.within in let b = length-append lines (l ∷ []) in omega (arith, a, b));
@@ -48,7 +48,7 @@ fronts_more scopes opening lines l list are =
           (publications_more p (history_from lines) (line_from l) (map publication_from list) (are.publications p stands));
     }
 
-pub fronts_kept : (scopes : List Scope) (opening : SiteState) (lines : List Line) (l : Line) (list : List Publication) → ∥ AreFronts scopes opening lines list ∥₁ → ∥ AreFronts scopes opening (lines ++ l ∷ []) list ∥₁
+pub fronts_kept : (scopes : List Scope) (opening : CoreState) (lines : List Line) (l : Line) (list : List Publication) → ∥ AreFronts scopes opening lines list ∥₁ → ∥ AreFronts scopes opening (lines ++ l ∷ []) list ∥₁
 fronts_kept scopes opening lines l list are = ∥∥₁_elim are (hlevel) (λ a. ∣ fronts_more scopes opening lines l list a ∣₁)
 
 -- ---- one publication more, of all lines
@@ -75,15 +75,15 @@ after_all : (p : Plain) (lines : List Line) → after_lines p (history_from line
 after_all p lines =
     ap (λ (h : History). after p (map (λ x. x.event) h) (map (λ x. x.answer) h)) (let long = length-map lines line_from in take_all (length lines) (history_from lines) (omega (arith, long)))
 
-module _ (view : (p : Plain) (t : TopologyState) → IsServed p t → IsView p (routes_of t)) (scopes : List Scope) (opening now : SiteState) where
+module _ (view : (p : Plain) (t : TopologyState) → IsServed p t → IsView p (routes_of t)) (scopes : List Scope) (opening now : CoreState) where
   module _ (lines : List Line) where
     abbrev newest : Publication
-    newest = publication (length lines) (routes_of now.core.topology)
+    newest = publication (length lines) (routes_of now.base.topology)
 
-    is_newest : Leads scopes opening lines now → (p : Plain) → SiteStands p scopes opening → IsPublication p (history_from lines) (publication_from newest)
+    is_newest : Leads scopes opening lines now → (p : Plain) → CoreStands p scopes opening → IsPublication p (history_from lines) (publication_from newest)
     is_newest leads p stands = (
       (let long = length-map lines line_from in omega (arith, long)),
-      subst (λ q. IsView q (routes_of now.core.topology)) (sym (after_all p lines)) (view (after p (asked lines) (answered lines)) now.core.topology ((leads.each p stands).1.core.topology.served)),
+      subst (λ q. IsView q (routes_of now.base.topology)) (sym (after_all p lines)) (view (after p (asked lines) (answered lines)) now.base.topology ((leads.each p stands).1.base.topology.served)),
     )
 
     module _ (list : List Publication) where
@@ -100,39 +100,39 @@ module _ (view : (p : Plain) (t : TopologyState) → IsServed p t → IsView p (
       fronts_added leads are = ∥∥₁_elim leads (hlevel) (λ l. ∥∥₁_elim are (hlevel) (λ a. ∣ fronts_push l a ∣₁))
 
 -- the first one
-pub first_front : ((p : Plain) (t : TopologyState) → IsServed p t → IsView p (routes_of t)) → (scopes : List Scope) (opening : SiteState)
-    → ∥ AreFronts scopes opening [] (publication 0 (routes_of opening.core.topology) ∷ []) ∥₁
+pub first_front : ((p : Plain) (t : TopologyState) → IsServed p t → IsView p (routes_of t)) → (scopes : List Scope) (opening : CoreState)
+    → ∥ AreFronts scopes opening [] (publication 0 (routes_of opening.base.topology) ∷ []) ∥₁
 first_front view scopes opening =
     ∣ record {
       within = omega arith;
       publications = λ p stands.
           record {
             begins = refl;
-            each = All-push (IsPublication p []) [] (publication_from (publication 0 (routes_of opening.core.topology))) (λ k d inside. absurd (omega (arith, inside)))
-                (omega arith, view p opening.core.topology (stands.core.topology.served));
+            each = All-push (IsPublication p []) [] (publication_from (publication 0 (routes_of opening.base.topology))) (λ k d inside. absurd (omega (arith, inside)))
+                (omega arith, view p opening.base.topology (stands.base.topology.served));
             fronts = λ i j d below inside. absurd (omega (arith, below, inside));
           };
     } ∣₁
 
 -- none has a front beyond the last line
-pub last_front_within : (scopes : List Scope) (opening : SiteState) (lines : List Line) (list : List Publication) → ∥ AreFronts scopes opening lines list ∥₁ → last_front list ≤ length lines
+pub last_front_within : (scopes : List Scope) (opening : CoreState) (lines : List Line) (list : List Publication) → ∥ AreFronts scopes opening lines list ∥₁ → last_front list ≤ length lines
 last_front_within scopes opening lines list are = ∥∥₁_elim are (hlevel props) (λ a. a.within)
 
 -- behind a publication that was listed, or wasn't
-pub fronts_listed : (scopes : List Scope) (opening : SiteState) (lines : List Line) (q : Publication) (old new : List Publication) (result : Bool) → MatchBool result (new ≡ old ++ q ∷ []) (new ≡ old)
+pub fronts_listed : (scopes : List Scope) (opening : CoreState) (lines : List Line) (q : Publication) (old new : List Publication) (result : Bool) → MatchBool result (new ≡ old ++ q ∷ []) (new ≡ old)
     → ∥ AreFronts scopes opening lines old ∥₁ → ∥ AreFronts scopes opening lines (old ++ q ∷ []) ∥₁ → ∥ AreFronts scopes opening lines new ∥₁
 fronts_listed scopes opening lines q old new false none kept added = subst (λ list. ∥ AreFronts scopes opening lines list ∥₁) (sym none) kept
 fronts_listed scopes opening lines q old new true listed kept added = subst (λ list. ∥ AreFronts scopes opening lines list ∥₁) (sym listed) added
 
 -- ---- what is known of them without the book
 
-pub published : (scopes : List Scope) (opening now : SiteState) (lines : List Line) (list : List Publication) → ∥ Leads scopes opening lines now ∥₁ → ∥ AreFronts scopes opening lines list ∥₁ → Published scopes opening list
+pub published : (scopes : List Scope) (opening now : CoreState) (lines : List Line) (list : List Publication) → ∥ Leads scopes opening lines now ∥₁ → ∥ AreFronts scopes opening lines list ∥₁ → Published scopes opening list
 published scopes opening now lines list leads are = ∥∥₁_elim leads (hlevel) (λ l. ∥∥₁_elim are (hlevel) (λ a. ∣ (lines, now, l, a) ∣₁))
 
-pub tells : (scopes : List Scope) (opening now : SiteState) (lines : List Line) (old new : List Publication) → new ≡ old ++ publication (length lines) (routes_of now.core.topology) ∷ []
+pub tells : (scopes : List Scope) (opening now : CoreState) (lines : List Line) (old new : List Publication) → new ≡ old ++ publication (length lines) (routes_of now.base.topology) ∷ []
     → ∥ Leads scopes opening lines now ∥₁ → ∥ AreFronts scopes opening lines new ∥₁ → Tells scopes opening new
 tells scopes opening now lines old new is leads are =
-    ∥∥₁_elim leads (hlevel) (λ l. ∥∥₁_elim are (hlevel) (λ a. ∣ (lines, now, l, a, ap (last_or None) is ∙ last_added None old (publication (length lines) (routes_of now.core.topology))) ∣₁))
+    ∥∥₁_elim leads (hlevel) (λ l. ∥∥₁_elim are (hlevel) (λ a. ∣ (lines, now, l, a, ap (last_or None) is ∙ last_added None old (publication (length lines) (routes_of now.base.topology))) ∣₁))
 
 -- a list whose last publication has the routes of a topology is shown by places that agree with them
 pub shows_last : (t : TopologyState) (front : ℕ) (old new : List Publication) (places : PlacesState) → new ≡ old ++ publication front (routes_of t) ∷ [] → AreRoutes (routes_of t) → Agrees places (routes_of t) → Shows new places

@@ -12,13 +12,13 @@ use Rattle.mt_plain.specs.Answers.{Answers, IsLegal, Run, after}
 use Rattle.mt_plain.specs.Events as plain
 use Rattle.mt_plain.specs.Next.{next}
 use Rattle.mt_plain.specs.Plain.{Plain}
-use Rattle.mt_site.specs.Stood.{IsSiteWith}
-use Rattle.mt_site_state.specs.Ways.{SiteStands, SiteState, SiteSteps}
+use Rattle.mt_site.specs.Stood.{IsCoreWith}
+use Rattle.mt_stands.specs.Ways.{CoreStands, CoreState, CoreSteps}
 use Rattle.mt_desk.specs.declared.history.Line.{Line}
 use Rattle.mt_desk.specs.Histories.{Leads, answered, asked, history_from, line}
 
 -- no line leads nowhere
-pub leads_nowhere : (scopes : List Scope) (s : SiteState) → IsSiteWith scopes s → Leads scopes s [] s
+pub leads_nowhere : (scopes : List Scope) (s : CoreState) → IsCoreWith scopes s → Leads scopes s [] s
 leads_nowhere scopes s stood = record { stood = stood; each = λ p stands. (tt, stands) }
 
 -- a legal history goes on with one line more
@@ -31,35 +31,35 @@ more (x ∷ lines) p l legal given =
     let r = more lines (next p (event_of x.event) (answer_from x.answer)) l legal.1 given in
     ((legal.0, r.0), r.1)
 
-pub leads_more : (scopes : List Scope) (opening now later : SiteState) (lines : List Line) (l : Line) → Leads scopes opening lines now
-    → SiteSteps scopes now (event_of l.event) (answer_from l.answer) later → Leads scopes opening (lines ++ l ∷ []) later
+pub leads_more : (scopes : List Scope) (opening now later : CoreState) (lines : List Line) (l : Line) → Leads scopes opening lines now
+    → CoreSteps scopes now (event_of l.event) (answer_from l.answer) later → Leads scopes opening (lines ++ l ∷ []) later
 leads_more scopes opening now later lines l leads step = record {
   stood = leads.stood;
   each = λ p stands.
       let was = leads.each p stands in
       let stepped = step (after p (asked lines) (answered lines)) was.1 in
       let r = more lines p l was.0 stepped.0 in
-      (r.0, subst (λ q. SiteStands q scopes later) (sym r.1) stepped.1);
+      (r.0, subst (λ q. CoreStands q scopes later) (sym r.1) stepped.1);
 }
 
 -- there is a state that the controller stands for now
-pub stands_now : (scopes : List Scope) (opening now : SiteState) (lines : List Line) → ∥ Leads scopes opening lines now ∥₁ → IsSiteWith scopes now
+pub stands_now : (scopes : List Scope) (opening now : CoreState) (lines : List Line) → ∥ Leads scopes opening lines now ∥₁ → IsCoreWith scopes now
 stands_now scopes opening now lines leads =
     ∥∥₁_elim leads (hlevel) (λ l. ∥∥₁_map l.stood (λ (p, stands). (after p (asked lines) (answered lines), (l.each p stands).1)))
 
 -- of a history that leads on the headline holds
-pub headline_holds : (scopes : List Scope) (opening now : SiteState) (lines : List Line)
+pub headline_holds : (scopes : List Scope) (opening now : CoreState) (lines : List Line)
     → ((p : Plain) (events : List plain.Event) (answers : List plain.Answer) → IsReached p → Run p events answers → Headline p events answers)
-    → ∥ Leads scopes opening lines now ∥₁ → (p : Plain) → SiteStands p scopes opening → ∥ Headline p (asked lines) (answered lines) ∥₁
+    → ∥ Leads scopes opening lines now ∥₁ → (p : Plain) → CoreStands p scopes opening → ∥ Headline p (asked lines) (answered lines) ∥₁
 headline_holds scopes opening now lines law leads p stands =
-    ∥∥₁_elim leads (hlevel) (λ l. ∣ law p (asked lines) (answered lines) stands.core.reached (l.each p stands).0 ∣₁)
+    ∥∥₁_elim leads (hlevel) (λ l. ∣ law p (asked lines) (answered lines) stands.base.reached (l.each p stands).0 ∣₁)
 
 -- the same, kept
-pub kept_nowhere : (scopes : List Scope) (opening s : SiteState) → s ≡ opening → IsSiteWith scopes s → ∥ Leads scopes opening [] s ∥₁
+pub kept_nowhere : (scopes : List Scope) (opening s : CoreState) → s ≡ opening → IsCoreWith scopes s → ∥ Leads scopes opening [] s ∥₁
 kept_nowhere scopes opening s is stood = ∣ subst (λ o. Leads scopes o [] s) is (leads_nowhere scopes s stood) ∣₁
 
-pub kept_more : (scopes : List Scope) (opening now later : SiteState) (lines : List Line) (client : ℕ) (event : Event) (answer : Result Reply Refusal)
-    → ∥ Leads scopes opening lines now ∥₁ → SiteSteps scopes now (event_of event) (answer_from answer) later
+pub kept_more : (scopes : List Scope) (opening now later : CoreState) (lines : List Line) (client : ℕ) (event : Event) (answer : Result Reply Refusal)
+    → ∥ Leads scopes opening lines now ∥₁ → CoreSteps scopes now (event_of event) (answer_from answer) later
     → ∥ Leads scopes opening (lines ++ line client event answer ∷ []) later ∥₁
 kept_more scopes opening now later lines client event answer leads step =
     ∥∥₁_elim leads (hlevel) (λ l. ∣ leads_more scopes opening now later lines (line client event answer) l step ∣₁)

@@ -6,7 +6,7 @@ use Rattle.indexmap.specs.IndexSet.{IndexSet, contains}
 use Rattle.mt_model.specs.declared.entries.Scope.{Scope}
 use Rattle.mt_plain.specs.Answers.{IsLegal}
 use Rattle.mt_plain.specs.Plain.{Plain}
-use Rattle.mt_site_state.specs.Ways.{SiteStands, SiteState}
+use Rattle.mt_stands.specs.Ways.{CoreStands, CoreState}
 use Rattle.mt_desk.specs.declared.history.Call.{Call}
 use Rattle.mt_desk.specs.declared.history.Line.{Line}
 use Rattle.mt_desk.specs.Histories.{Leads, calls_of, history_from}
@@ -42,13 +42,13 @@ pub has_next : {X : Type 0} (f : X → ℕ × List Call) (xs : List X) (i : ℕ)
 has_next f xs i x client inside is = ap (λ ps. has_pass ps client) (sym (map_next f xs i x inside is)) ∙ has_push (map f (take i xs)) (f x) client
 
 -- the history that is kept is the one
-pub one_history : (scopes : List Scope) (opening now : SiteState) (passes : List (ℕ × List Call)) (lines : List Line) → ∥ Leads scopes opening lines now ∥₁ → IsOf passes lines
+pub one_history : (scopes : List Scope) (opening now : CoreState) (passes : List (ℕ × List Call)) (lines : List Line) → ∥ Leads scopes opening lines now ∥₁ → IsOf passes lines
     → HaveOneHistory scopes opening passes
 one_history scopes opening now passes lines leads is = ∥∥₁_elim leads (hlevel) (λ l. ∣ (lines, now, l, is) ∣₁)
 
 -- it is legal from a state that the controller stood for at the opening
-pub one_legal_history : (scopes : List Scope) (opening : SiteState) (passes : List (ℕ × List Call)) → HaveOneHistory scopes opening passes
-    → ∥ ((p : Plain) × (lines : List Line) × SiteStands p scopes opening × IsLegal p (history_from lines) × IsOf passes lines) ∥₁
+pub one_legal_history : (scopes : List Scope) (opening : CoreState) (passes : List (ℕ × List Call)) → HaveOneHistory scopes opening passes
+    → ∥ ((p : Plain) × (lines : List Line) × CoreStands p scopes opening × IsLegal p (history_from lines) × IsOf passes lines) ∥₁
 one_legal_history scopes opening passes one =
     ∥∥₁_elim one (hlevel) (λ (lines, now, leads, is). ∥∥₁_map leads.stood (λ (p, stands). (p, lines, stands, (leads.each p stands).0, is)))
 
@@ -61,7 +61,7 @@ contains_at f (y ∷ ys) zero x inside is = (zero, omega arith, ap f (sym is))
 contains_at f (y ∷ ys) (suc i) x inside is = let (k, below, at) = contains_at f ys i x (omega (arith, inside)) is in (suc k, omega (arith, below), at)
 
 -- the history that is kept is one from which they differ
-pub cause_kept : (scopes : List Scope) (opening now : SiteState) (passes : List (ℕ × List Call)) (lines : List Line) (client : ℕ) → ∥ Leads scopes opening lines now ∥₁ → Differs passes lines client
+pub cause_kept : (scopes : List Scope) (opening now : CoreState) (passes : List (ℕ × List Call)) (lines : List Line) (client : ℕ) → ∥ Leads scopes opening lines now ∥₁ → Differs passes lines client
     → IsCaused scopes opening passes (HistoryDiffers client)
 cause_kept scopes opening now passes lines client leads differs = ∥∥₁_elim leads (hlevel) (λ l. ∣ (lines, now, l, differs) ∣₁)
 

@@ -13,7 +13,7 @@ use Rattle.mt_routes.specs.Differences.{IsDifference}
 use Rattle.mt_routes.specs.Places.{PlacesState, with_entry}
 use Rattle.mt_routes.specs.Turns.{AreInTurn}
 use Rattle.mt_routes.specs.Publications.{last_front, publication}
-use Rattle.mt_site_state.specs.Ways.{SiteStands, SiteState}
+use Rattle.mt_stands.specs.Ways.{CoreStands, CoreState}
 use Rattle.mt_watch.specs.Asking.{Answering, IsRefusedAt, IsScopeAt}
 use Rattle.mt_watch.specs.Scopes.{has_scope}
 use Rattle.mt_desk.specs.declared.fault.DeskFault.{DeskFault}
@@ -26,23 +26,23 @@ publication_from q = record { front = q.front; view = q.entries }
 
 -- a list has the publications of a history: each has a number of its lines as its front, and tells the view after them; the first is of no
 -- line, and fronts never fall
-pub record AreFronts (scopes : List Scope) (opening : SiteState) (lines : List Line) (list : List Publication) : Type 0 where
+pub record AreFronts (scopes : List Scope) (opening : CoreState) (lines : List Line) (list : List Publication) : Type 0 where
   pub within : last_front list ≤ length lines
-  pub publications : (p : Plain) → SiteStands p scopes opening → ArePublications p (history_from lines) (map publication_from list)
+  pub publications : (p : Plain) → CoreStands p scopes opening → ArePublications p (history_from lines) (map publication_from list)
 
 -- there is a history, legal from each state that the controller stood for at the opening, that has these publications
-abbrev pub Published : List Scope → (opening : SiteState) → List Publication → Type 0
+abbrev pub Published : List Scope → (opening : CoreState) → List Publication → Type 0
 Published scopes opening list =
-    ∥ ((lines : List Line) × (now : SiteState) × Leads scopes opening lines now × AreFronts scopes opening lines list) ∥₁
+    ∥ ((lines : List Line) × (now : CoreState) × Leads scopes opening lines now × AreFronts scopes opening lines list) ∥₁
 
 -- the last publication is of all lines, and has the routes of the topology that these lead to
-abbrev pub EndsWithAll : List Line → (now : SiteState) → List Publication → Type 0
-EndsWithAll lines now list = last_or None list ≡ Some (publication (length lines) (routes_of now.core.topology))
+abbrev pub EndsWithAll : List Line → (now : CoreState) → List Publication → Type 0
+EndsWithAll lines now list = last_or None list ≡ Some (publication (length lines) (routes_of now.base.topology))
 
 -- the same of a history as it stood when the last of them was made
-abbrev pub Tells : List Scope → (opening : SiteState) → List Publication → Type 0
+abbrev pub Tells : List Scope → (opening : CoreState) → List Publication → Type 0
 Tells scopes opening list =
-    ∥ ((lines : List Line) × (now : SiteState) × Leads scopes opening lines now × AreFronts scopes opening lines list × EndsWithAll lines now list) ∥₁
+    ∥ ((lines : List Line) × (now : CoreState) × Leads scopes opening lines now × AreFronts scopes opening lines list × EndsWithAll lines now list) ∥₁
 
 -- ---- why nothing is told
 

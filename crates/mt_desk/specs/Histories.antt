@@ -8,8 +8,8 @@ use Rattle.mt_model.specs.declared.entries.Scope.{Scope}
 use Rattle.mt_plain.specs.Answers.{History, HistoryLine, IsLegal, after}
 use Rattle.mt_plain.specs.Events as plain
 use Rattle.mt_plain.specs.Plain.{Plain}
-use Rattle.mt_site.specs.Stood.{IsSiteWith}
-use Rattle.mt_site_state.specs.Ways.{SiteStands, SiteState}
+use Rattle.mt_site.specs.Stood.{IsCoreWith}
+use Rattle.mt_stands.specs.Ways.{CoreStands, CoreState}
 use Rattle.mt_desk.specs.declared.history.Call.{Call}
 use Rattle.mt_desk.specs.declared.history.Line.{Line}
 
@@ -46,7 +46,7 @@ answered lines = map (λ l. l.answer) (history_from lines)
 
 -- there is a state that the controller stood for at the opening; and from each such state a history is legal, and leads to one that it
 -- stands for now
-pub record Leads (scopes : List Scope) (opening : SiteState) (lines : List Line) (now : SiteState) : Type 0 where
-  pub stood : IsSiteWith scopes opening
-  pub each : (p : Plain) → SiteStands p scopes opening
-      → IsLegal p (history_from lines) × SiteStands (after p (asked lines) (answered lines)) scopes now
+pub record Leads (scopes : List Scope) (opening : CoreState) (lines : List Line) (now : CoreState) : Type 0 where
+  pub stood : IsCoreWith scopes opening
+  pub each : (p : Plain) → CoreStands p scopes opening
+      → IsLegal p (history_from lines) × CoreStands (after p (asked lines) (answered lines)) scopes now

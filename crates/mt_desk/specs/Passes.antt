@@ -2,7 +2,7 @@
 use Rattle.std.specs.Prelude.{◌≡◌, ◌≤◌, ◌==◌, ◌||◌, ◌⊎◌, ℕ, Bool, true, false, [], ◌∷◌, ◌++◌, List, All, Contains, Result, Ok, Err, length, ⊤, nat_eq}
 use Rattle.indexmap.specs.IndexSet.{IndexSet, contains}
 use Rattle.mt_model.specs.declared.entries.Scope.{Scope}
-use Rattle.mt_site_state.specs.Ways.{SiteState}
+use Rattle.mt_stands.specs.Ways.{CoreState}
 use Rattle.mt_desk.specs.declared.history.Call.{Call}
 use Rattle.mt_desk.specs.declared.history.Line.{Line}
 use Rattle.mt_desk.specs.Histories.{Leads, calls_of}
@@ -43,9 +43,9 @@ pub record IsOf (passes : List (ℕ × List Call)) (lines : List Line) : Type 0 
   pub others : All (IsOfPass passes) lines
 
 -- there is one such history, and it is legal from each state that the controller stood for at the opening
-abbrev pub HaveOneHistory : List Scope → (opening : SiteState) → List (ℕ × List Call) → Type 0
+abbrev pub HaveOneHistory : List Scope → (opening : CoreState) → List (ℕ × List Call) → Type 0
 HaveOneHistory scopes opening passes =
-    ∥ ((lines : List Line) × (now : SiteState) × Leads scopes opening lines now × IsOf passes lines) ∥₁
+    ∥ ((lines : List Line) × (now : CoreState) × Leads scopes opening lines now × IsOf passes lines) ∥₁
 
 -- ---- why a history isn't that of some passes
 
@@ -71,8 +71,8 @@ Compares clients passes lines (Err other) = ⊥
 
 -- a desk refuses to gather passes as it tells: there is a history, legal as above, from which the calls of the client that it names differ.
 -- Passes are refused for no other reason but that one is missing, or that no memory is left
-abbrev pub IsCaused : List Scope → (opening : SiteState) → List (ℕ × List Call) → DeskFault → Type 0
-IsCaused scopes opening passes (HistoryDiffers client) = ∥ ((lines : List Line) × (now : SiteState) × Leads scopes opening lines now × Differs passes lines client) ∥₁
+abbrev pub IsCaused : List Scope → (opening : CoreState) → List (ℕ × List Call) → DeskFault → Type 0
+IsCaused scopes opening passes (HistoryDiffers client) = ∥ ((lines : List Line) × (now : CoreState) × Leads scopes opening lines now × Differs passes lines client) ∥₁
 IsCaused scopes opening passes PassMissing = ⊤
 IsCaused scopes opening passes Memory = ⊤
 IsCaused scopes opening passes other = ⊥

@@ -3,15 +3,15 @@ ghost use Rattle.std.specs.Prelude.{◌≡◌, ◌+◌, ◌≤◌, ◌++◌, Lis
 ghost use Rattle.std.specs.Vec.{vec_capacity, vec_len};
 ghost use Rattle.mt_event.specs.declared.reply.Reply.TheVariants.{Done};
 ghost use Rattle.mt_event.specs.Events.{answer_from, event_of};
-ghost use Rattle.mt_kept.specs.Rooms.{IsReady};
+ghost use Rattle.mt_event.specs.Rooms.{IsReady};
 ghost use Rattle.mt_plain.specs.Events as plain;
 ghost use Rattle.mt_plain.specs.Plain.{Plain};
 ghost use Rattle.mt_laws.specs.Headline.{Headline};
 ghost use Rattle.mt_site.specs.Applies.{AppliesAndPurges};
 ghost use Rattle.mt_site.specs.GivenUp.{CanBeGivenUp};
 ghost use Rattle.mt_site.specs.Owed.{owed_to};
-ghost use Rattle.mt_site.specs.Stood.{IsSiteWith};
-ghost use Rattle.mt_site_state.specs.Ways.{SiteStands, SiteSteps};
+ghost use Rattle.mt_site.specs.Stood.{IsCoreWith};
+ghost use Rattle.mt_stands.specs.Ways.{CoreStands, CoreSteps};
 ghost use Rattle.mt_model.specs.declared.entries.Scope.TheVariants.{Routes};
 ghost use Rattle.mt_model.specs.Topology.{routes_of};
 ghost use Rattle.mt_model.specs.declared.entries.Entry.{Entry};
@@ -32,16 +32,16 @@ use crate::room::{make_ready, make_room, new_history};
 use crate::tell::noticed;
 use crate::{Answer, DeskFault, DeskName, Pass};
 use indexmap::IndexSet;
-use mt_event::Event;
-use mt_kept::{KeptAnswer, KeptEvent, Room};
-use mt_laws::{each_event_owes_one_at_most, every_run_keeps_the_headline};
+use mt_event::{CompactAnswer, CompactEvent, Event, Room};
+use mt_laws::{
+    each_event_owes_one_at_most, every_run_keeps_the_headline, routes_of_what_is_served_are_a_view,
+};
 use mt_model::Entry;
 use mt_routes::{
     Ends, Front, Head, Next, Opened, Told, routes_of_a_topology_say_each_of_themselves,
     what_is_written_agrees,
 };
-use mt_rows::routes_of_what_is_served_are_a_view;
-use mt_site::{Core, a_core_owes_what_its_state_owes};
+use mt_site::{Core, a_base_owes_what_its_state_owes};
 use mt_watch::Asks;
 use std::alloc::Global;
 use std::sync::ledger::Blank;
@@ -76,12 +76,12 @@ impl<D: DeskName> Book<D> {
         requires name { (blank.name ≡ D.name) × (blank.parts ≡ D.parts) }
         requires list { opened.seen.book ≡ D.book }
         requires opening { core ≡ D.opening }
-        requires stood { IsSiteWith D.scopes core }
+        requires stood { IsCoreWith D.scopes core }
         ensures core { IfOk result (λ r. r.0.core ≡ core) }
         ensures history { IfOk result (λ r. r.0.history.items ≡ []) }
         ensures clients { IfOk result (λ r. r.0.clients.keys ≡ []) }
-        ensures told { IfOk result (λ r. r.0.told ≡ publication 0 (routes_of core.core.topology) ∷ []) }
-        ensures routes { IfOk result (λ r. r.1.items ≡ routes_of core.core.topology) }
+        ensures told { IfOk result (λ r. r.0.told ≡ publication 0 (routes_of core.base.topology) ∷ []) }
+        ensures routes { IfOk result (λ r. r.1.items ≡ routes_of core.base.topology) }
         ensures are { IfOk result (λ r. AreRoutes r.1.items) }
         ensures memory { IfErr result (λ fault. fault ≡ DeskFault.Memory) }
     {
@@ -107,9 +107,9 @@ impl<D: DeskName> Book<D> {
     ) -> Option<(Vec<Line>, Vec<Entry>)>
         requires { told.old ≡ [] }
         ensures none { IfSome result (λ r. r.0.items ≡ []) }
-        ensures room { IfSome result (λ r. vec_len r.0 + owed_to core.now.core.workflows ≤ vec_capacity r.0) }
-        ensures first { IfSome result (λ r. told.new ≡ publication 0 (routes_of core.now.core.topology) ∷ []) }
-        ensures routes { IfSome result (λ r. r.1.items ≡ routes_of core.now.core.topology) }
+        ensures room { IfSome result (λ r. vec_len r.0 + owed_to core.now.base.workflows ≤ vec_capacity r.0) }
+        ensures first { IfSome result (λ r. told.new ≡ publication 0 (routes_of core.now.base.topology) ∷ []) }
+        ensures routes { IfSome result (λ r. r.1.items ≡ routes_of core.now.base.topology) }
         ensures are { IfSome result (λ r. AreRoutes r.1.items) }
     {
         core.topology().facts();
@@ -135,10 +135,10 @@ impl<D: DeskName> Book<D> {
         told: Told<D>,
     ) -> Self
         requires opening { core ≡ D.opening }
-        requires stood { IsSiteWith D.scopes core }
+        requires stood { IsCoreWith D.scopes core }
         requires none { history.items ≡ [] }
-        requires room { vec_len history + owed_to core.core.workflows ≤ vec_capacity history }
-        requires first { told ≡ publication 0 (routes_of core.core.topology) ∷ [] }
+        requires room { vec_len history + owed_to core.base.workflows ≤ vec_capacity history }
+        requires first { told ≡ publication 0 (routes_of core.base.topology) ∷ [] }
         ensures core { result.core ≡ core }
         ensures history { result.history ≡ history }
         ensures clients { result.clients ≡ clients }
@@ -169,9 +169,9 @@ impl<D: DeskName> Book<D> {
     /// Adds the routes of the topology to the list of publications, with the number of lines of the history as their front, and says
     /// whether it did: `listed` tells why not. It takes no memory, and no event is taken.
     fn list(&mut self, entries: Vec<Entry>) -> bool
-        requires { entries.items ≡ routes_of self.old.core.core.topology }
+        requires { entries.items ≡ routes_of self.old.core.base.topology }
         ensures told { MatchBool result
-            (self.new.told ≡ self.old.told ++ publication (length self.old.history.items) (routes_of self.old.core.core.topology) ∷ [])
+            (self.new.told ≡ self.old.told ++ publication (length self.old.history.items) (routes_of self.old.core.base.topology) ∷ [])
             (self.new.told ≡ self.old.told) }
         ensures core { self.new.core ≡ self.old.core }
         ensures history { self.new.history ≡ self.old.history }
@@ -203,17 +203,17 @@ impl<D: DeskName> Book<D> {
         routes: &mut Ends<D, R>,
     ) -> Result<Told<D>, DeskFault>
         ensures told { IfOk result (λ told. self.new.told
-            ≡ self.old.told ++ publication (length self.old.history.items) (routes_of self.old.core.core.topology) ∷ []) }
+            ≡ self.old.told ++ publication (length self.old.history.items) (routes_of self.old.core.base.topology) ∷ []) }
         ensures is { IfOk result (λ told. told ≡ self.new.told) }
-        ensures asks { OnOk result ((change : List Entry) × Changes (pending_of routes.old.shown) self.old.core.core.topology change
+        ensures asks { OnOk result ((change : List Entry) × Changes (pending_of routes.old.shown) self.old.core.base.topology change
             × IsTold (W.scopes watchers.now) (W.may_answer watchers.now) Routes change change) }
         ensures tells { IfOk result (λ told. Tells D.scopes D.opening told) }
         ensures shows { IfOk result (λ told. published_of routes.new.shown ≡ told) }
-        ensures agrees { OnOk result (Agrees (pending_of routes.new.shown) (routes_of self.old.core.core.topology)) }
+        ensures agrees { OnOk result (Agrees (pending_of routes.new.shown) (routes_of self.old.core.base.topology)) }
         ensures none { OnErr result (self.new.told ≡ self.old.told) }
-        ensures caused { IfErr result (λ fault. AsksNone (W.scopes watchers.now) (W.may_answer watchers.now) (Changes (pending_of routes.old.shown) self.old.core.core.topology) fault) }
+        ensures caused { IfErr result (λ fault. AsksNone (W.scopes watchers.now) (W.may_answer watchers.now) (Changes (pending_of routes.old.shown) self.old.core.base.topology) fault) }
         ensures shown { OnErr result (published_of routes.new.shown ≡ published_of routes.old.shown) }
-        ensures pending { IfErr result (λ fault. LeavesPending (pending_of routes.old.shown) self.old.core.core.topology fault (pending_of routes.new.shown)) }
+        ensures pending { IfErr result (λ fault. LeavesPending (pending_of routes.old.shown) self.old.core.base.topology fault (pending_of routes.new.shown)) }
         ensures core { self.new.core ≡ self.old.core }
         ensures history { self.new.history ≡ self.old.history }
         ensures clients { self.new.clients ≡ self.old.clients }
@@ -247,7 +247,7 @@ impl<D: DeskName> Book<D> {
         requires scopes { W.scopes watchers.now ≡ D.scopes }
         ensures line { IfOk result (λ r. self.new.history.items ≡ self.old.history.items ++ line client event r ∷ []) }
         ensures applies { IfOk result (λ r. AppliesAndPurges (W.scopes watchers.now) (W.may_answer watchers.now) self.old.core (event_of event) (answer_from r) self.new.core) }
-        ensures steps { IfOk result (λ r. SiteSteps (W.scopes watchers.now) self.old.core (event_of event) (answer_from r) self.new.core) }
+        ensures steps { IfOk result (λ r. CoreSteps (W.scopes watchers.now) self.old.core (event_of event) (answer_from r) self.new.core) }
         ensures none { OnErr result ((self.new.history.items ≡ self.old.history.items) × (self.new.core ≡ self.old.core)) }
         ensures clients { self.new.clients.keys ≡ self.old.clients.keys }
         ensures told { self.new.told ≡ self.old.told }
@@ -256,7 +256,7 @@ impl<D: DeskName> Book<D> {
         ensures places { CanBeGivenUp self.old.core (event_of event) → vec_capacity self.new.history ≡ vec_capacity self.old.history }
     {
         let alloc = *self.history.allocator();
-        let Ok(kept) = KeptEvent::new(alloc, &event) else {
+        let Ok(kept) = CompactEvent::new(alloc, &event) else {
             return Err(DeskFault::Memory);
         };
         let mut room = Room::new(alloc);
@@ -273,15 +273,15 @@ impl<D: DeskName> Book<D> {
         watchers: &W,
         client: u16,
         event: &Event,
-        kept: KeptEvent,
+        kept: CompactEvent,
         room: &mut Room,
-    ) -> Result<KeptAnswer, DeskFault>
+    ) -> Result<CompactAnswer, DeskFault>
         requires scopes { W.scopes watchers.now ≡ D.scopes }
         requires kept { kept ≡ event.now }
         requires ready { is_undo_or_cancel (event_of event.now) ≡ false → IsReady room.old }
         ensures line { IfOk result (λ r. self.new.history.items ≡ self.old.history.items ++ line client event.now r ∷ []) }
         ensures applies { IfOk result (λ r. AppliesAndPurges (W.scopes watchers.now) (W.may_answer watchers.now) self.old.core (event_of event.now) (answer_from r) self.new.core) }
-        ensures steps { IfOk result (λ r. SiteSteps (W.scopes watchers.now) self.old.core (event_of event.now) (answer_from r) self.new.core) }
+        ensures steps { IfOk result (λ r. CoreSteps (W.scopes watchers.now) self.old.core (event_of event.now) (answer_from r) self.new.core) }
         ensures none { OnErr result ((self.new.history.items ≡ self.old.history.items) × (self.new.core ≡ self.old.core)) }
         ensures clients { self.new.clients.keys ≡ self.old.clients.keys }
         ensures told { self.new.told ≡ self.old.told }
@@ -290,7 +290,7 @@ impl<D: DeskName> Book<D> {
         ensures places { CanBeGivenUp self.old.core (event_of event.now) → vec_capacity self.new.history ≡ vec_capacity self.old.history }
     {
         each_event_owes_one_at_most();
-        a_core_owes_what_its_state_owes();
+        a_base_owes_what_its_state_owes();
         let Book {
             core,
             history,
@@ -353,7 +353,7 @@ impl<D: DeskName> Book<D> {
     pub fn lines(&self) -> &[Line]
         ensures lines { result.now ≡ self.now.history.items }
         ensures leads { ∥ Leads D.scopes D.opening result.now self.now.core ∥₁ }
-        ensures headline { (p : Plain) → SiteStands p D.scopes D.opening → ∥ Headline p (asked result.now) (answered result.now) ∥₁ }
+        ensures headline { (p : Plain) → CoreStands p D.scopes D.opening → ∥ Headline p (asked result.now) (answered result.now) ∥₁ }
     {
         every_run_keeps_the_headline();
         self.history.as_slice()

@@ -6,13 +6,12 @@ ghost use Rattle.mt_watch.specs.Scopes.{has_scope};
 ghost use Rattle.mt_desk.specs.Fronts.{Published, Tells, TellsNone};
 ghost use Rattle.mt_desk.specs.Histories.{call};
 ghost use Rattle.mt_desk.specs.Passes.{HaveOneHistory, IsCaused};
-ghost use Rattle.mt_site.specs.Stood.{IsSiteWith};
+ghost use Rattle.mt_site.specs.Stood.{IsCoreWith};
 
 use crate::account::counted_by_client;
 use crate::locked::Locked;
 use crate::{Account, Answer, Book, DeskFault, DeskName, Pass};
-use mt_event::Event;
-use mt_kept::KeptEvent;
+use mt_event::{CompactEvent, Event};
 use mt_routes::{Ends, Opened, Router, Told};
 use mt_site::Site;
 use mt_watch::Asks;
@@ -43,7 +42,7 @@ impl<D: DeskName, W: Asks + Drop, R: Wait + Drop> Desk<D, W, R> {
         requires list { opened.seen.book ≡ D.book }
         requires opening { site.core ≡ D.opening }
         requires scopes { W.scopes site.watchers ≡ D.scopes }
-        requires stood { IsSiteWith D.scopes site.core }
+        requires stood { IsCoreWith D.scopes site.core }
         ensures memory { IfErr result (λ fault. fault ≡ DeskFault.Memory) }
     {
         let (core, watchers) = site.into_parts();
@@ -85,10 +84,10 @@ impl<D: DeskName, W: Asks + Drop, R: Wait + Drop> Desk<D, W, R> {
         ensures memory { IfErr result (λ fault. fault ≡ DeskFault.Memory) }
     {
         pass.make_place(&event)?;
-        let Ok(call) = KeptEvent::new(self.alloc, &event) else {
+        let Ok(call) = CompactEvent::new(self.alloc, &event) else {
             return Err(DeskFault::Memory);
         };
-        let Ok(line) = KeptEvent::new(self.alloc, &event) else {
+        let Ok(line) = CompactEvent::new(self.alloc, &event) else {
             return Err(DeskFault::Memory);
         };
         let client = pass.client();

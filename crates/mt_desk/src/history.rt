@@ -2,7 +2,7 @@
 ghost use Rattle.std.specs.Prelude.{◌≡◌, ◌↔◌, true};
 ghost use Rattle.mt_desk.specs.Histories.{call_of};
 
-use mt_kept::{KeptAnswer, KeptEvent};
+use mt_event::{CompactAnswer, CompactEvent};
 
 /// A line of the history: which client asked for an event, and the answer.
 #[derive(Drop)]
@@ -10,18 +10,18 @@ pub struct Line {
     /// The client.
     pub client: u16,
     /// The event.
-    pub event: KeptEvent,
+    pub event: CompactEvent,
     /// The answer.
-    pub answer: KeptAnswer,
+    pub answer: CompactAnswer,
 }
 
 /// A call that a client made: its event, and the answer.
 #[derive(Drop)]
 pub struct Call {
     /// The event.
-    pub event: KeptEvent,
+    pub event: CompactEvent,
     /// The answer.
-    pub answer: KeptAnswer,
+    pub answer: CompactAnswer,
 }
 
 /// Whether a line is of this call. It takes no memory.

@@ -20,7 +20,7 @@ pub use book::Book;
 pub use desk::Desk;
 pub use fault::DeskFault;
 pub use history::{Call, Line};
-pub use mt_kept::Answer;
+pub use mt_event::Answer;
 pub use mt_routes::{Front, Router, Told};
 pub use name::DeskName;
 pub use pass::Pass;

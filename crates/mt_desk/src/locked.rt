@@ -1,7 +1,7 @@
 //! What lies under the lock.
 ghost use Rattle.std.specs.Prelude.{◌≡◌, ◌⊎◌, false, true, IfErr, IfOk, OnOk, map};
 ghost use Rattle.mt_event.specs.Events.{event_of};
-ghost use Rattle.mt_kept.specs.Rooms.{IsReady};
+ghost use Rattle.mt_event.specs.Rooms.{IsReady};
 ghost use Rattle.mt_model.specs.declared.entries.Scope.TheVariants.{Routes};
 ghost use Rattle.mt_watch.specs.Scopes.{has_scope};
 ghost use Rattle.mt_desk.specs.Fronts.{Published, Tells, TellsNone};
@@ -9,8 +9,7 @@ ghost use Rattle.mt_desk.specs.Passes.{HaveOneHistory, IsCaused};
 ghost use Rattle.mt_desk.specs.Room.{is_undo_or_cancel};
 
 use crate::{Book, DeskFault, DeskName, Pass};
-use mt_event::Event;
-use mt_kept::{KeptAnswer, KeptEvent, Room};
+use mt_event::{CompactAnswer, CompactEvent, Event, Room};
 use mt_routes::{Ends, Router, Told};
 use mt_watch::Asks;
 use std::alloc::Global;
@@ -31,9 +30,9 @@ impl<D: DeskName, W: Asks + Drop, R: Wait + Drop> Locked<D, W, R> {
         &mut self,
         client: u16,
         event: &Event,
-        kept: KeptEvent,
+        kept: CompactEvent,
         room: &mut Room,
-    ) -> Result<KeptAnswer, DeskFault>
+    ) -> Result<CompactAnswer, DeskFault>
         requires kept { kept ≡ event.now }
         requires ready { is_undo_or_cancel (event_of event.now) ≡ false → IsReady room.old }
         ensures memory { IfErr result (λ fault. fault ≡ DeskFault.Memory) }

@@ -1,7 +1,7 @@
 //! The name of a desk.
 ghost use Rattle.std.specs.Prelude.{List, []};
 ghost use Rattle.mt_model.specs.declared.entries.Scope.{Scope};
-ghost use Rattle.mt_site_state.specs.Ways.{SiteState, empty_site};
+ghost use Rattle.mt_stands.specs.Ways.{CoreState, empty_core};
 
 use mt_routes::Naming;
 use std::marker::Brand;
@@ -11,13 +11,13 @@ use std::sync::ledger::Ledger;
 /// and uses the desk inside a function over a type of this trait, which it calls with `Brand`.
 pub trait DeskName: Ledger + Naming {
     /// The state of the controller when the desk was opened.
-    ghost opening: { SiteState };
+    ghost opening: { CoreState };
     /// The scopes of the watchers that it asks.
     ghost scopes: { List Scope };
 }
 
 impl DeskName for Brand {
-    ghost opening = { empty_site };
+    ghost opening = { empty_core };
 
     ghost scopes = { [] };
 }

@@ -2,14 +2,13 @@
 ghost use Rattle.std.specs.Prelude.{◌≡◌, ◌+◌, ◌<◌, ◌≤◌, ◌++◌, [], ◌∷◌, false, true, IfErr, OnOk, length};
 ghost use Rattle.std.specs.Vec.{vec_capacity};
 ghost use Rattle.mt_event.specs.Events.{event_of};
-ghost use Rattle.mt_kept.specs.Rooms.{IsReady};
+ghost use Rattle.mt_event.specs.Rooms.{IsReady};
 ghost use Rattle.mt_desk.specs.Histories.{call};
 ghost use Rattle.mt_desk.specs.Room.{is_undo_or_cancel};
 
 use crate::room::make_ready;
 use crate::{Call, DeskFault, DeskName};
-use mt_event::Event;
-use mt_kept::{KeptAnswer, KeptEvent, Room};
+use mt_event::{CompactAnswer, CompactEvent, Event, Room};
 use std::alloc::Global;
 use std::marker::PhantomData;
 
@@ -82,7 +81,7 @@ impl<D: DeskName> Pass<D> {
     }
 
     /// Lists one call more, for which there is a place. It takes no memory.
-    pub(crate) fn add(&mut self, event: KeptEvent, answer: KeptAnswer)
+    pub(crate) fn add(&mut self, event: CompactEvent, answer: CompactAnswer)
         requires { length self.old.calls.items < vec_capacity self.old.calls }
         ensures client { self.new.client ≡ self.old.client }
         ensures calls { self.new.calls.items ≡ self.old.calls.items ++ call event answer ∷ [] }

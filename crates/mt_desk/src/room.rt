@@ -4,12 +4,11 @@ ghost use Rattle.std.specs.Vec.{vec_capacity, vec_len};
 ghost use Rattle.mt_event.specs.Events.{event_of};
 ghost use Rattle.mt_workflow.specs.Workflows.{way_from};
 ghost use Rattle.mt_site.specs.Owed.{owed_to};
-ghost use Rattle.mt_kept.specs.Rooms.{IsReady};
+ghost use Rattle.mt_event.specs.Rooms.{IsReady};
 ghost use Rattle.mt_desk.specs.Room.{can_cancel, can_undo, gives_up, is_undo_or_cancel};
 
 use crate::{DeskFault, Line};
-use mt_event::Event;
-use mt_kept::Room;
+use mt_event::{Event, Room};
 use mt_site::Core;
 use mt_workflow::{Way, Workflow};
 use std::alloc::{AllocError, Global};
@@ -87,7 +86,7 @@ pub(crate) fn make_room(
     ensures same { gives_up core.now (event_of event.now) ≡ true → vec_capacity history.new ≡ vec_capacity history.old }
     ensures found { gives_up core.now (event_of event.now) ≡ true → vec_len history.old < vec_capacity history.old → result ≡ true }
     ensures others { gives_up core.now (event_of event.now) ≡ false → result ≡ true
-        → vec_len history.old + owed_to core.now.core.workflows + 2 ≤ vec_capacity history.new }
+        → vec_len history.old + owed_to core.now.base.workflows + 2 ≤ vec_capacity history.new }
     ensures ready { gives_up core.now (event_of event.now) ≡ false → result ≡ true → IsReady room.new }
 {
     if gives_up(core, event) {
@@ -106,8 +105,8 @@ pub(crate) fn make_room(
 /// no workflow is live.
 pub(crate) fn new_history(alloc: Global, core: &Core) -> Result<Vec<Line>, AllocError>
     ensures none { IfOk result (λ history. history.items ≡ []) }
-    ensures room { IfOk result (λ history. vec_len history + owed_to core.now.core.workflows ≤ vec_capacity history) }
-    ensures none_live { core.now.core.workflows ≡ [] → IsOk result }
+    ensures room { IfOk result (λ history. vec_len history + owed_to core.now.base.workflows ≤ vec_capacity history) }
+    ensures none_live { core.now.base.workflows ≡ [] → IsOk result }
 {
     let mut history = Vec::new(alloc);
     match history.reserve(core.owed()) {

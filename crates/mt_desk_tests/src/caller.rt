@@ -2,7 +2,7 @@
 ghost use Rattle.std.specs.Prelude.{◌≡◌, [], ◌∷◌, true, IfSome};
 ghost use Rattle.mt_desk.specs.Histories.{call};
 ghost use Rattle.mt_desk.specs.Passes.{HaveOneHistory};
-ghost use Rattle.mt_site.specs.Stood.{IsSiteWith};
+ghost use Rattle.mt_site.specs.Stood.{IsCoreWith};
 
 use mt_desk::{Answer, Desk, DeskFault, DeskName, Pass};
 use mt_event::Event;
@@ -81,7 +81,7 @@ fn ask_both_anew<D: DeskName, W: Asks + Drop, R: Wait + Drop + Copy>(
     requires list { opened.seen.book ≡ D.book }
     requires opening { site.core ≡ D.opening }
     requires scopes { W.scopes site.watchers ≡ D.scopes }
-    requires stood { IsSiteWith D.scopes site.core }
+    requires stood { IsCoreWith D.scopes site.core }
     ensures { IfSome result (λ answers. HaveOneHistory D.scopes D.opening ((1, call first answers.0 ∷ []) ∷ (2, call second answers.1 ∷ []) ∷ [])) }
 {
     let made: Result<Desk<D, W, R>, DeskFault> = Desk::open(alloc, rt, blank, opened, site);
@@ -102,7 +102,7 @@ pub fn two_calls<W: Asks + Drop, R: Wait + Drop + Copy>(
     first: Event,
     second: Event,
 ) -> Option<(Answer, Answer)>
-    requires { IsSiteWith (W.scopes site.watchers) site.core }
+    requires { IsCoreWith (W.scopes site.watchers) site.core }
     ensures { IfSome result (λ answers. HaveOneHistory (W.scopes site.watchers) site.core ((1, call first answers.0 ∷ []) ∷ (2, call second answers.1 ∷ []) ∷ [])) }
 {
     let (blank, opened) = (Blank::new(1), Opened::new());

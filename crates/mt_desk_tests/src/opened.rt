@@ -1,6 +1,6 @@
 //! A desk for a test: its watchers, what was applied before it was opened, and what is tried at it.
 ghost use Rattle.std.specs.Prelude.{◌≡◌, IfOk, IfSome};
-ghost use Rattle.mt_site.specs.Stood.{IsSiteWith};
+ghost use Rattle.mt_site.specs.Stood.{IsCoreWith};
 ghost use Rattle.mt_watch.specs.Notices.{notice_of};
 
 use crate::acts::{Act, Played, play};
@@ -125,7 +125,7 @@ fn watchers_of(alloc: Global, watch: Watch) -> Option<Watchers> {
 
 /// Whether an event is done, at once or at a second try where memory was short.
 fn applies<W: Asks>(site: &mut Site<W>, line: &str) -> bool
-    ensures { IsSiteWith (W.scopes site.old.watchers) site.old.core → IsSiteWith (W.scopes site.new.watchers) site.new.core }
+    ensures { IsCoreWith (W.scopes site.old.watchers) site.old.core → IsCoreWith (W.scopes site.new.watchers) site.new.core }
 {
     let Some(event) = event_of(line) else {
         return false;
@@ -139,7 +139,7 @@ fn applies<W: Asks>(site: &mut Site<W>, line: &str) -> bool
 
 /// Whether events are done, one after the other.
 fn apply_all<W: Asks>(site: &mut Site<W>, lines: &[&str]) -> bool
-    ensures { IsSiteWith (W.scopes site.old.watchers) site.old.core → IsSiteWith (W.scopes site.new.watchers) site.new.core }
+    ensures { IsCoreWith (W.scopes site.old.watchers) site.old.core → IsCoreWith (W.scopes site.new.watchers) site.new.core }
 {
     for line in lines {
         if !applies(site, line) {
@@ -151,7 +151,7 @@ fn apply_all<W: Asks>(site: &mut Site<W>, lines: &[&str]) -> bool
 
 /// A controller to which events were applied.
 pub fn site_of<W: Asks + Drop>(alloc: Global, watchers: W, lines: &[&str]) -> Option<Site<W>>
-    ensures { IfSome result (λ site. IsSiteWith (W.scopes site.watchers) site.core) }
+    ensures { IfSome result (λ site. IsCoreWith (W.scopes site.watchers) site.core) }
 {
     let mut site = Site::open(alloc, watchers);
     if apply_all(&mut site, lines) {
@@ -194,7 +194,7 @@ fn at_a_desk<D: DeskName + Send + Sync, W: Asks + Drop + Send, R: Threads + Wait
     requires list { opened.seen.book ≡ D.book }
     requires opening { site.core ≡ D.opening }
     requires scopes { W.scopes site.watchers ≡ D.scopes }
-    requires stood { IsSiteWith D.scopes site.core }
+    requires stood { IsCoreWith D.scopes site.core }
 {
     let made: Result<Desk<D, W, &R>, DeskFault> = Desk::open(alloc, rt, blank, opened, site);
     let Ok(desk) = made else {

@@ -3,6 +3,7 @@ use Rattle.std.proofs.Common.{◌≡◌, Bool, true, false, ◌&&◌, List, [], 
 use Rattle.std.specs.Option.{option_eq}
 use Rattle.std.proofs.lemmas.Bool.{true≢false}
 use Rattle.mt_names.specs.Same.{DecidesEquality}
+use Rattle.mt_names.proofs.BoolLemmas.{both}
 use denote.Enum.Compared.{Each, by}
 use denote.Enum.Declared.{Choice, left_or, right_or}
 use denote.Struct.Field.{Field}
@@ -16,10 +17,6 @@ nothing_decides a b = (λ _. refl, λ _. refl)
 -- the last of some fields
 pub last_decides : {A : Type 0} (f : A → A → Bool) → DecidesEquality f → DecidesEquality {K = A × Unit {0}} (λ x y. f x.0 y.0)
 last_decides {A} f first x y = (λ is. ap (λ a. (a, tt)) ((first x.0 y.0).0 is), λ same. (first x.0 y.0).1 (ap (λ (z : A × Unit {0}). z.0) same))
-
-both : (a b : Bool) → (a && b) ≡ true → (a ≡ true) × (b ≡ true)
-both true b is = (refl, is)
-both false b is = absurd (true≢false (sym is))
 
 and_true : (a b : Bool) → a ≡ true → b ≡ true → (a && b) ≡ true
 and_true true b is too = too

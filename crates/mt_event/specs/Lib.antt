@@ -1,5 +1,9 @@
+pub mod CompactAnswers
+pub mod CompactEvents
+pub mod CompactOps
 pub mod Drives
 pub mod Events
 pub mod Kinds
 pub mod Reasons
+pub mod Rooms
 pub mod Same

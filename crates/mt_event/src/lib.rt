@@ -1,6 +1,7 @@
-//! What is asked of the controller, and what it answers.
+//! What is asked of the controller, and what it answers; and the same in few bytes, as a history keeps it.
 #![tactic(auto)]
 
+mod compact;
 mod driven;
 mod event;
 mod lanes;
@@ -10,6 +11,7 @@ mod refusal;
 mod reply;
 mod tables;
 
+pub use compact::{Answer, CompactAnswer, CompactEvent, Room, copied_answer};
 pub use driven::Driven;
 pub use event::Event;
 pub use lanes::{ShownLane, ShownStream};

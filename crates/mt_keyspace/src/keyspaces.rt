@@ -70,14 +70,14 @@ impl Keyspaces {
     pub fn get(&self, name: &KeyspaceName) -> Option<&Keyspace>
         ensures { option_copied result ≡ keyspace_at self.now name.now }
     {
-        mt_few::get(&self.places, name)
+        self.places.get(name)
     }
 
     /// Whether a keyspace has a table.
     pub fn is_present(&self, keyspace: &KeyspaceName, table: &TableName) -> bool
         ensures { result ≡ is_present self.now keyspace.now table.now }
     {
-        match mt_few::get(&self.places, keyspace) {
+        match self.places.get(keyspace) {
             Some(keyspace) => keyspace.is_present(table),
             None => false,
         }
@@ -87,7 +87,7 @@ impl Keyspaces {
     pub fn is_denied(&self, keyspace: &KeyspaceName, table: &TableName) -> bool
         ensures { result ≡ is_denied self.now keyspace.now table.now }
     {
-        match mt_few::get(&self.places, keyspace) {
+        match self.places.get(keyspace) {
             Some(keyspace) => keyspace.is_denied(table),
             None => false,
         }
@@ -97,7 +97,7 @@ impl Keyspaces {
     pub fn has_denied_place(&self, keyspace: &KeyspaceName, table: &TableName) -> bool
         ensures { result ≡ option_map_or (λ state. is_some (lookup (same_text table.now) state.denied)) (keyspace_at self.now keyspace.now) false }
     {
-        match mt_few::get(&self.places, keyspace) {
+        match self.places.get(keyspace) {
             Some(keyspace) => keyspace.has_denied_place(table),
             None => false,
         }
@@ -107,7 +107,7 @@ impl Keyspaces {
     pub fn has_place(&self, keyspace: &KeyspaceName, table: &TableName) -> bool
         ensures { result ≡ option_map_or (λ state. is_some (lookup (same_text table.now) state.tables)) (keyspace_at self.now keyspace.now) false }
     {
-        match mt_few::get(&self.places, keyspace) {
+        match self.places.get(keyspace) {
             Some(keyspace) => keyspace.has_place(table),
             None => false,
         }
@@ -119,7 +119,7 @@ impl Keyspaces {
         ensures before { result ≡ is_present self.old keyspace.now table.now }
         ensures after { self.new ≡ with_keyspace_state (with_table_mark table.now mark) self.old keyspace.now }
     {
-        let Some(keyspace) = mt_few::get_mut(&mut self.places, keyspace) else {
+        let Some(keyspace) = self.places.get_mut(keyspace) else {
             return false;
         };
         keyspace.set_present(table, mark)
@@ -131,7 +131,7 @@ impl Keyspaces {
         ensures before { result ≡ is_denied self.old keyspace.now table.now }
         ensures after { self.new ≡ with_keyspace_state (with_denied_mark table.now mark) self.old keyspace.now }
     {
-        let Some(keyspace) = mt_few::get_mut(&mut self.places, keyspace) else {
+        let Some(keyspace) = self.places.get_mut(keyspace) else {
             return false;
         };
         keyspace.set_denied(table, mark)
@@ -185,7 +185,7 @@ impl Keyspaces {
         ensures { Edits self.old (add_table_refusal self.old keyspace.now table.now) (add_table_grows self.old keyspace.now table.now)
             (with_keyspace_state (with_new_table table.now) self.old keyspace.now) result self.new }
     {
-        let Some(keyspace) = mt_few::get_mut(&mut self.places, keyspace) else {
+        let Some(keyspace) = self.places.get_mut(keyspace) else {
             return Err(TopologyFault::NoKeyspace);
         };
         keyspace.add_table(table)
@@ -203,7 +203,7 @@ impl Keyspaces {
         ensures edits { Edits self.old (table_place_refusal self.old keyspace.now table.now) (table_place_grows self.old keyspace.now table.now)
             (with_keyspace_state (with_table_place table.now) self.old keyspace.now) (answer_of (done result)) self.new }
     {
-        let Some(keyspace) = mt_few::get_mut(&mut self.places, keyspace) else {
+        let Some(keyspace) = self.places.get_mut(keyspace) else {
             unreachable!();
         };
         keyspace.make_place(table)
@@ -222,7 +222,7 @@ impl Keyspaces {
         ensures edits { Edits self.old (denied_place_refusal self.old keyspace.now table.now) (denied_place_grows self.old keyspace.now table.now)
             (with_keyspace_state (with_denied_place table.now) self.old keyspace.now) (answer_of (done result)) self.new }
     {
-        let Some(keyspace) = mt_few::get_mut(&mut self.places, keyspace) else {
+        let Some(keyspace) = self.places.get_mut(keyspace) else {
             unreachable!();
         };
         keyspace.make_denied_place(table)
@@ -232,7 +232,7 @@ impl Keyspaces {
     pub fn release_table(&mut self, keyspace: &KeyspaceName, table: &TableName)
         ensures { self.new ≡ with_keyspace_state (without_table_place table.now) self.old keyspace.now }
     {
-        let Some(keyspace) = mt_few::get_mut(&mut self.places, keyspace) else {
+        let Some(keyspace) = self.places.get_mut(keyspace) else {
             return;
         };
         keyspace.release_table(table);
@@ -242,7 +242,7 @@ impl Keyspaces {
     pub fn release_denial(&mut self, keyspace: &KeyspaceName, table: &TableName)
         ensures { self.new ≡ with_keyspace_state (without_denied_place table.now) self.old keyspace.now }
     {
-        let Some(keyspace) = mt_few::get_mut(&mut self.places, keyspace) else {
+        let Some(keyspace) = self.places.get_mut(keyspace) else {
             return;
         };
         keyspace.release_denial(table);
@@ -252,7 +252,7 @@ impl Keyspaces {
     pub fn drop_table(&mut self, keyspace: &KeyspaceName, table: &TableName)
         ensures { self.new ≡ with_keyspace_state (without_table table.now) self.old keyspace.now }
     {
-        let Some(keyspace) = mt_few::get_mut(&mut self.places, keyspace) else {
+        let Some(keyspace) = self.places.get_mut(keyspace) else {
             return;
         };
         keyspace.drop_table(table);
@@ -262,7 +262,7 @@ impl Keyspaces {
     pub fn drop_denial(&mut self, keyspace: &KeyspaceName, table: &TableName)
         ensures { self.new ≡ with_keyspace_state (without_denial table.now) self.old keyspace.now }
     {
-        let Some(keyspace) = mt_few::get_mut(&mut self.places, keyspace) else {
+        let Some(keyspace) = self.places.get_mut(keyspace) else {
             return;
         };
         keyspace.drop_denial(table);

@@ -22,8 +22,8 @@ pub mod GoesOnLemmas
 pub mod HasNumberLemmas
 pub mod HeadlineLemmas
 pub mod IdleLemmas
-pub mod InUseLemmas
 pub mod InPlaceLemmas
+pub mod InUseLemmas
 pub mod KeepLemmas
 pub mod LaneLemmas
 pub mod LevelLemmas
@@ -57,6 +57,7 @@ pub mod ReachedLemmas
 pub mod ReadLemmas
 pub mod RefusalLemmas
 pub mod ReverseLemmas
+pub mod RoutesLemmas
 pub mod RowWitnessLemmas
 pub mod RuleLimitLemmas
 pub mod RunLemmas

@@ -15,6 +15,7 @@ mod reached;
 mod rows;
 mod runs;
 mod scripts;
+mod served_routes;
 mod serving;
 mod steps;
 mod streams;
@@ -71,6 +72,7 @@ pub use scripts::{
     drives_end_within_their_turns, each_line_that_writes_writes_one_line,
     each_output_is_that_of_a_run, output_is_what_is_written_where_memory_is_ample,
 };
+pub use served_routes::routes_of_what_is_served_are_a_view;
 pub use serving::lists_of_entries_say_what_is_served;
 pub use steps::{
     a_step_can_be_taken_back, an_abandoned_way_writes_no_journal, an_undo_takes_a_step_back,

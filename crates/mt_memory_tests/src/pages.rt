@@ -1,8 +1,8 @@
 //! Rows in pages: where an allocation fails the row is refused, and all rows stay, though a page may have been cut for it.
 
+use mt_model::SharedValue;
 use mt_names::Value;
-use mt_pages::Pages;
-use mt_shared::SharedValue;
+use mt_store::Pages;
 use std::alloc::{AllocError, Global};
 
 /// How many rows are put. It is a prime, so that a row of each key comes once in `Order::Mixed`.

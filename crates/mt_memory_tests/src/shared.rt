@@ -1,8 +1,8 @@
 //! Names and values that several hold: a value of at most 22 bytes takes no memory, and a longer one is refused where
 //! there is none.
 
+use mt_model::{SharedName, SharedValue};
 use mt_names::{NameFault, TableName, Value};
-use mt_shared::{SharedName, SharedValue};
 use std::alloc::{AllocError, Global};
 
 /// The longest value, of which each value here is the beginning.

@@ -1,3 +1,4 @@
+pub mod AboutLemmas
 pub mod DistinctLemmas
 pub mod PartLemmas
 pub mod PlaceLemmas

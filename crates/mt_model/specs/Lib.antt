@@ -5,3 +5,4 @@ pub mod Notices
 pub mod Part
 pub mod Rows
 pub mod Topology
+pub mod Values

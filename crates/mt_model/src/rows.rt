@@ -2,8 +2,8 @@
 ghost use Rattle.std.specs.Prelude.{◌≡◌};
 ghost use Rattle.mt_model.specs.Rows.{op_key};
 
+use crate::{SharedName, SharedValue};
 use mt_names::{Value, copied_value};
-use mt_shared::{SharedName, SharedValue};
 
 /// A client's write to one row of a table.
 #[derive(Debug, Drop, Eq, PartialEq)]

@@ -1,3 +1,4 @@
+pub mod BoolLemmas
 pub mod BoundLemmas
 pub mod CutLemmas
 pub mod EntryLemmas

@@ -7,7 +7,7 @@ use Rattle.mt_model.specs.Limits.{longest_log}
 use Rattle.mt_model.specs.Rows.{Row}
 use Rattle.mt_primary.specs.Primary.{IsInKeyOrder, TableState, row_in}
 use Rattle.mt_primary.specs.Tables.{ChangesRow, IsRowPut, LoggedTable, RowEdit, changed_row, edit_key, edited_row}
-use Rattle.mt_log.specs.Log.{LogState, TellsRoom, has_room, log_end, with_entry}
+use Rattle.mt_store.specs.Log.{LogState, TellsRoom, has_room, log_end, with_entry}
 
 -- room that was made is there
 told_ok : {A : Type 0} (log : LogState) (room : Result A PrimaryFault) (done : A) → room ≡ Ok done → TellsRoom log room → has_room log ≡ true

@@ -8,7 +8,7 @@ use Rattle.mt_names.specs.Names.{same_text}
 use Rattle.mt_names.proofs.SameLemmas.{same_text_decides}
 use Rattle.mt_model.specs.declared.rows.RowChange.{RowChange}
 use Rattle.mt_model.specs.Rows.{is_change_of, row_with}
-use Rattle.mt_log.proofs.ReadLemmas.{from_entry, past_more, stands_at}
+use Rattle.mt_store.proofs.ReadLemmas.{from_entry, past_more, stands_at}
 use Rattle.mt_primary.specs.Primary.{IsPrimary, PrimaryState, made_at, row_at, row_at_position}
 use Rattle.mt_primary.specs.Reads.{entries_from}
 

@@ -3,7 +3,9 @@ pub mod DenialLemmas
 pub mod LawLemmas
 pub mod LeadLemmas
 pub mod LogLemmas
+pub mod PlaceLemmas
 pub mod PlacedLemmas
+pub mod PrimariesLemmas
 pub mod PrimaryLemmas
 pub mod PutLemmas
 pub mod ReadLemmas

@@ -14,7 +14,7 @@ use Rattle.mt_model.specs.declared.faults.PrimaryFault.{PrimaryFault}
 use Rattle.mt_model.specs.declared.faults.PrimaryFault.TheVariants.{Denied}
 use Rattle.mt_model.specs.declared.rows.Op.{Op}
 use Rattle.mt_model.specs.Rows.{Row}
-use Rattle.mt_log.specs.Log.{LogState}
+use Rattle.mt_store.specs.Log.{LogState}
 use Rattle.mt_primary.specs.Denials.{AreDenialsSet, told_by_mark}
 use Rattle.mt_primary.specs.Primary.{IsPrimary, PrimaryState, TableState, table_at}
 use Rattle.mt_primary.specs.Tables.{ChangesRow, Put, Write}

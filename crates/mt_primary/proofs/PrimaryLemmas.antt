@@ -20,8 +20,8 @@ use Rattle.mt_model.specs.declared.faults.PrimaryFault.TheVariants.{Denied, LogF
 use Rattle.mt_model.specs.declared.rows.Op.{Op}
 use Rattle.mt_model.specs.declared.rows.RowChange.{RowChange}
 use Rattle.mt_model.specs.Rows.{Row, is_change_of, op_key, row_with}
-use Rattle.mt_log.specs.Log.{LogState, entries_past, entry_in, has_room, log_end, purged_by, with_entry, without_below}
-use Rattle.mt_log.proofs.ReadLemmas.{entry_purged, past_purged, purged_within}
+use Rattle.mt_store.specs.Log.{LogState, entries_past, entry_in, has_room, log_end, purged_by, with_entry, without_below}
+use Rattle.mt_store.proofs.ReadLemmas.{entry_purged, past_purged, purged_within}
 use Rattle.mt_primary.specs.Primary.{IsInKeyOrder, IsPrimary, PrimaryState, TableState, end_of, is_denied_at, made_at, new_table, row_at, row_in, table_at}
 use Rattle.mt_primary.specs.Tables.{ChangesRow, IsRowPut, LoggedTable, Put, Write, changed_row}
 use Rattle.mt_primary.specs.Writes.{IsPut, IsWritten, Puts, Writes, unless_full, with_new_table, with_purge, without_table, written_row}

@@ -5,7 +5,7 @@ use Rattle.std.proofs.lemmas.List.{drop-append-le}
 use Rattle.std.specs.Option.{option_map}
 use Rattle.mt_names.proofs.SameLemmas.{same_text_decides}
 use Rattle.mt_names.specs.Names.{same_text}
-use Rattle.mt_log.specs.Log.{entries_past}
+use Rattle.mt_store.specs.Log.{entries_past}
 use Rattle.mt_primary.specs.Primary.{PrimaryState, TableState, end_of, has_table, row_at, table_at}
 use Rattle.mt_primary.specs.Reads.{entries_from}
 use Rattle.mt_primary.specs.Writes.{IsPut, RowPut, change_by, row_after_put}

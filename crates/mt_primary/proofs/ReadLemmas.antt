@@ -7,7 +7,7 @@ use Rattle.std.specs.Map.{keys_of}
 use Rattle.std.specs.Ordering.{is_lt, nat_cmp}
 use Rattle.std.specs.declared.cmp.Ordering.TheVariants.{Less}
 use Rattle.mt_model.specs.Rows.{RowValue}
-use Rattle.mt_pages.proofs.OrderLemmas.{is_lt-nat_cmp}
+use Rattle.mt_store.proofs.OrderLemmas.{is_lt-nat_cmp}
 use Rattle.mt_primary.specs.Reads.{is_above}
 
 -- ---- rows in the order of their keys

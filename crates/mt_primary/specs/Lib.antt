@@ -1,4 +1,8 @@
 pub mod Denials
+pub mod Kept
+pub mod Lends
+pub mod Places
+pub mod Primaries
 pub mod Primary
 pub mod Reads
 pub mod Tables

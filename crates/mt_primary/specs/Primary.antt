@@ -8,7 +8,7 @@ use Rattle.std.specs.Ordering.{nat_cmp}
 use Rattle.mt_names.specs.Names.{same_text}
 use Rattle.mt_model.specs.declared.rows.RowChange.{RowChange}
 use Rattle.mt_model.specs.Rows.{Row, RowValue, is_change_of}
-use Rattle.mt_log.specs.Log.{LogState, empty_log, entries_past, entry_in, log_end}
+use Rattle.mt_store.specs.Log.{LogState, empty_log, entries_past, entry_in, log_end}
 
 -- a table: the position of the log at which it was made, whether the primary's own list has it, and its rows by their keys
 pub record TableState : Type 0 where

@@ -8,8 +8,8 @@ use Rattle.mt_model.specs.declared.faults.PrimaryFault.{PrimaryFault}
 use Rattle.mt_model.specs.declared.faults.PrimaryFault.TheVariants.{NoTable, Denied}
 use Rattle.mt_model.specs.declared.rows.RowChange.{RowChange}
 use Rattle.mt_model.specs.Rows.{Row, RowValue}
-use Rattle.mt_log.specs.Log.{entries_past, read_entry}
-pub use Rattle.mt_pages.specs.Pages.{is_above}
+use Rattle.mt_store.specs.Log.{entries_past, read_entry}
+pub use Rattle.mt_store.specs.Pages.{is_above}
 use Rattle.mt_primary.specs.Primary.{PrimaryState, TableState, has_table, is_denied_at, row_at, row_in, table_at}
 
 -- ---- a row

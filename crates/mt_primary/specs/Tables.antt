@@ -6,7 +6,7 @@ use Rattle.mt_model.specs.declared.faults.PrimaryFault.TheVariants.{Memory}
 use Rattle.mt_model.specs.declared.rows.Op.{Op}
 use Rattle.mt_model.specs.declared.rows.RowChange.{RowChange}
 use Rattle.mt_model.specs.Rows.{Row, op_key, op_row}
-use Rattle.mt_log.specs.Log.{LogState, log_end, with_entry}
+use Rattle.mt_store.specs.Log.{LogState, log_end, with_entry}
 use Rattle.mt_primary.specs.Primary.{TableState, IsInKeyOrder, row_in}
 use Rattle.mt_primary.specs.Writes.{unless_full}
 

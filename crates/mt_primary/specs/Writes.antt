@@ -9,7 +9,7 @@ use Rattle.mt_model.specs.Limits.{longest_log}
 use Rattle.mt_model.specs.declared.rows.Op.{Op}
 use Rattle.mt_model.specs.declared.rows.RowChange.{RowChange}
 use Rattle.mt_model.specs.Rows.{Row, op_key, op_row}
-use Rattle.mt_log.specs.Log.{LogState, has_room, with_entry, without_below}
+use Rattle.mt_store.specs.Log.{LogState, has_room, with_entry, without_below}
 use Rattle.mt_primary.specs.Primary.{PrimaryState, end_of, has_table, is_denied_at, made_at, new_table, row_at}
 
 -- ---- a table made, and one dropped

@@ -6,14 +6,13 @@ ghost use Rattle.std.specs.Option.{option_copied};
 ghost use Rattle.mt_model.specs.declared.faults.PrimaryFault.TheVariants.{TooLong};
 ghost use Rattle.mt_model.specs.Rows.{appended};
 ghost use Rattle.mt_model.specs.declared.rows.Op.TheVariants.{Append, Delete, Insert, Update};
-ghost use Rattle.mt_log.specs.Log.{TellsRoom};
+ghost use Rattle.mt_store.specs.Log.{TellsRoom};
 ghost use Rattle.mt_primary.specs.Tables.{ChangesRow, Put, Write};
 
 use crate::table::Table;
-use mt_log::Log;
-use mt_model::{Op, PrimaryFault, RowChange};
+use mt_model::{Op, PrimaryFault, RowChange, SharedName, SharedValue};
 use mt_names::{Position, Value};
-use mt_shared::{SharedName, SharedValue};
+use mt_store::Log;
 
 /// What a change shares: the name of its table, and the row's value for the row and for the log's entry.
 #[derive(Drop)]
@@ -91,7 +90,7 @@ fn insert_row(
                 .rows
                 .insert(spot, key, made.row)
                 .map_err(|_| PrimaryFault::Memory)?;
-            table.rows.what_holds();
+            table.rows.facts();
             log.push_reserved(RowChange {
                 table: made.name,
                 key,
@@ -117,7 +116,7 @@ fn update_row(
         Ok(spot) => {
             let made = make(log, name, value)?;
             let before = table.rows.replace(spot, made.row);
-            table.rows.what_holds();
+            table.rows.facts();
             log.push_reserved(RowChange {
                 table: made.name,
                 key,
@@ -146,7 +145,7 @@ fn append_row(
             extend(&mut value, &more)?;
             let made = make(log, name, value)?;
             let before = table.rows.replace(spot, made.row);
-            table.rows.what_holds();
+            table.rows.facts();
             log.push_reserved(RowChange {
                 table: made.name,
                 key,
@@ -172,7 +171,7 @@ fn delete_row(
         Ok(spot) => {
             let name = make_name(log, name)?;
             let (_, before) = table.rows.remove(spot);
-            table.rows.what_holds();
+            table.rows.facts();
             log.push_reserved(RowChange {
                 table: name,
                 key,
@@ -197,7 +196,7 @@ fn set_row(
 {
     let Made { name, row, after } = share(log, name, value)?;
     let before = table.rows.set(key, row).map_err(|_| PrimaryFault::Memory)?;
-    table.rows.what_holds();
+    table.rows.facts();
     log.push_reserved(RowChange {
         table: name,
         key,
@@ -218,7 +217,7 @@ fn take_row(
 {
     let name = make_name(log, name)?;
     let before = table.rows.take(key);
-    table.rows.what_holds();
+    table.rows.facts();
     log.push_reserved(RowChange {
         table: name,
         key,

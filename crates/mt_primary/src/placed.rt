@@ -9,9 +9,8 @@ ghost use Rattle.mt_primary.specs.Writes.{Puts, Writes};
 
 use crate::edits::{put_row, write_row};
 use crate::primary::Primary;
-use mt_model::{Op, PrimaryFault};
+use mt_model::{Op, PrimaryFault, SharedValue};
 use mt_names::{Position, TableName, TabletType, Value};
-use mt_shared::SharedValue;
 
 impl Primary {
     /// The place of a table among the primary's tables, if it is there: a hint for the calls with a place. It

@@ -12,10 +12,9 @@ use crate::before::{Before, Mark};
 use crate::table::Table;
 use arrayvec::ArrayVec;
 use indexmap::IndexMap;
-use mt_log::Log;
-use mt_model::{Entry, Op, PrimaryFault, RowChange};
+use mt_model::{Entry, Op, PrimaryFault, RowChange, SharedName, SharedValue};
 use mt_names::{KeyspaceName, Position, TableName, TabletType, Value};
-use mt_shared::{SharedName, SharedValue};
+use mt_store::Log;
 use mt_watch::Notice;
 use std::alloc::Global;
 use std::marker::Model;
@@ -55,7 +54,7 @@ impl Primary {
     /// What holds of every primary, for the proofs of callers: a table has one place and its rows in the order of their
     /// keys, and each entry that is kept since its table was made leads to the next one of its row, or to the row that
     /// stands. It does nothing.
-    pub fn what_holds(&self)
+    pub fn facts(&self)
         ensures { IsPrimary self.now }
     {
         // A proof knows what holds of the fields once one of them is read.

@@ -4,10 +4,9 @@ ghost use Rattle.std.specs.Option.{option_copied, option_map};
 ghost use Rattle.mt_primary.specs.Primary.{new_table, row_in};
 ghost use Rattle.mt_primary.specs.Reads.{next_row_in, read_row_in};
 
-use mt_model::PrimaryFault;
+use mt_model::{PrimaryFault, SharedValue};
 use mt_names::{Position, TabletType, Value};
-use mt_pages::Pages;
-use mt_shared::SharedValue;
+use mt_store::Pages;
 use std::alloc::Global;
 use std::marker::Model;
 
@@ -21,7 +20,7 @@ pub struct Table {
 }
 
 impl Model for Table {
-    ghost use Rattle.mt_pages.specs.Pages.{rows_in};
+    ghost use Rattle.mt_store.specs.Pages.{rows_in};
     ghost use Rattle.mt_primary.specs.Primary.{TableState, IsInKeyOrder};
 
     ghost Value = { TableState };

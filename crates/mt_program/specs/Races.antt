@@ -3,8 +3,8 @@ use Rattle.std.specs.Prelude.{ℕ, if◌then◌else◌, List, [], ◌++◌, code
 use Rattle.std.specs.Io.KnownBytes.{Appends}
 use Rattle.mt_plain.specs.Numbers.{number_text}
 use Rattle.mt_plain.specs.Output.{line_feed}
-use Rattle.mt_io.specs.declared.fault.ScriptFault.{ScriptFault}
-use Rattle.mt_io.specs.Bytes.{Known, Writes, script_fault_text}
+use Rattle.mt_script.specs.declared.fault.ScriptFault.{ScriptFault}
+use Rattle.mt_script.specs.Bytes.{Known, Writes, script_fault_text}
 use Rattle.mt_race.specs.declared.fault.RaceFault.{RaceFault}
 use Rattle.mt_race.specs.declared.racing.Raced.{Raced}
 use Rattle.mt_race.specs.Faults.{race_fault_text}

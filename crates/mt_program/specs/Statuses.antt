@@ -1,6 +1,6 @@
 -- The statuses that the program ends with.
 use Rattle.std.specs.Prelude.{ℕ, Result, Ok, Err}
-use Rattle.mt_io.specs.declared.fault.ScriptFault.{ScriptFault}
+use Rattle.mt_script.specs.declared.fault.ScriptFault.{ScriptFault}
 use Rattle.mt_run.specs.declared.command.Status.{Status}
 use Rattle.mt_run.specs.declared.command.Status.TheVariants.{Done, Failed, Misused}
 

@@ -10,9 +10,9 @@ mod race;
 
 use crate::race::tell_race;
 use mt_choice::{Choice, Wrong, choose};
-use mt_io::ScriptFault;
 use mt_race::race_watched;
 use mt_run::{Status, perform};
+use mt_script::ScriptFault;
 use mt_workers::NoGate;
 use std::io;
 use std::io::ErrorKind;

@@ -5,9 +5,9 @@ ghost use Rattle.mt_program.specs.Races.{TellsFault, TellsRace, TellsWritten, ra
 
 use arrayvec::ArrayVec;
 use itoa::Buffer;
-use mt_io::{ScriptFault, write_line};
 use mt_race::{RaceFault, Raced};
 use mt_run::Status;
+use mt_script::{ScriptFault, write_line};
 use std::io::Write;
 
 /// Two texts, one behind the other.

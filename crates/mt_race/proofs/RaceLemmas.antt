@@ -13,7 +13,7 @@ use Rattle.mt_model.specs.declared.entries.Scope.{Scope}
 use Rattle.mt_model.specs.declared.rows.Op.TheVariants.{Insert}
 use Rattle.mt_model.specs.Rows.{RowValue}
 use Rattle.mt_names.specs.declared.keys.RuleKey.{RuleKey}
-use Rattle.mt_site_state.specs.Ways.{SiteState}
+use Rattle.mt_stands.specs.Ways.{CoreState}
 use Rattle.mt_workers.specs.declared.line.Line.{Line}
 use Rattle.mt_workers.specs.declared.line.Line.TheVariants.{Get, Put}
 use Rattle.mt_race.specs.declared.fault.RaceFault.{RaceFault}
@@ -96,7 +96,7 @@ three_more a b c d e x y z ba cb dc ed =
     ∙ append_assoc a (x ∷ []) (y ∷ z ∷ [])
 
 -- what is gathered and counted is a race
-pub have_raced : {X : Type 0} (f : X → ℕ × List Call) (scopes : List Scope) (opening : SiteState) (clients writes : ℕ) (raced : Raced) (writers : List X) (stream controller reader : X)
+pub have_raced : {X : Type 0} (f : X → ℕ × List Call) (scopes : List Scope) (opening : CoreState) (clients writes : ℕ) (raced : Raced) (writers : List X) (stream controller reader : X)
     → length writers ≡ clients → (f stream).0 ≡ clients + 1 → (f controller).0 ≡ clients + 2 → (f reader).0 ≡ clients + 3
     → AreWriters writes 0 (map f writers) → AreAsked (all_reads clients writes) (f reader).1
     → HaveOneHistory scopes opening (map f (writers ++ stream ∷ controller ∷ reader ∷ []))
@@ -119,7 +119,7 @@ have_raced f scopes opening clients writes raced writers stream controller reade
 } ∣₁
 
 -- so it is of the result that says it
-pub so_raced : {X : Type 0} (f : X → ℕ × List Call) (scopes : List Scope) (opening : SiteState) (clients writes : ℕ) (result : Result Raced RaceFault) (writers : List X) (stream controller reader : X)
+pub so_raced : {X : Type 0} (f : X → ℕ × List Call) (scopes : List Scope) (opening : CoreState) (clients writes : ℕ) (result : Result Raced RaceFault) (writers : List X) (stream controller reader : X)
     → length writers ≡ clients → (f stream).0 ≡ clients + 1 → (f controller).0 ≡ clients + 2 → (f reader).0 ≡ clients + 3
     → AreWriters writes 0 (map f writers) → AreAsked (all_reads clients writes) (f reader).1
     → IfOk result (λ raced. raced.agree ≡ true → HaveOneHistory scopes opening (map f (writers ++ stream ∷ controller ∷ reader ∷ [])))
@@ -130,7 +130,7 @@ so_raced f scopes opening clients writes (Ok raced) writers stream controller re
 so_raced f scopes opening clients writes (Err fault) writers stream controller reader many first second third wrote read one acknowledged rows = one
 
 -- it is one from an opening that there is
-pub raced_at : (scopes others : List Scope) (opening : SiteState) (clients writes : ℕ) (result : Result Raced RaceFault) → scopes ≡ others
+pub raced_at : (scopes others : List Scope) (opening : CoreState) (clients writes : ℕ) (result : Result Raced RaceFault) → scopes ≡ others
     → IfOk result (λ raced. raced.agree ≡ true → RacedFrom scopes opening clients writes raced) → IfOk result (λ raced. raced.agree ≡ true → RacedAt others clients writes raced)
 raced_at scopes others opening clients writes (Ok raced) same held =
     λ is. subst (λ s. RacedAt s clients writes raced) same (∥∥₁_map (held is) (λ had. (opening, had)))

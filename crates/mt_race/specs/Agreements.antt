@@ -12,7 +12,7 @@ use Rattle.mt_model.specs.declared.rows.Op.TheVariants.{Insert}
 use Rattle.mt_model.specs.Rows.{RowValue}
 use Rattle.mt_names.specs.declared.keys.RuleKey.{RuleKey}
 use Rattle.mt_routes.specs.declared.publication.Publication.{Publication}
-use Rattle.mt_site_state.specs.Ways.{SiteState}
+use Rattle.mt_stands.specs.Ways.{CoreState}
 use Rattle.mt_workers.specs.declared.line.Line.{Line}
 use Rattle.mt_workers.specs.declared.line.Line.TheVariants.{Get, Put}
 use Rattle.mt_workers.specs.Queries.{Queries}
@@ -84,7 +84,7 @@ AreWriters writes worker (pass ∷ passes) = (pass.0 ≡ worker + 1) × AreAsked
 -- the passes of all workers have one history: those of the clients that write, each of which asked for all of its rows, and behind them those of the
 -- worker that advances the stream, of the controller, and of one client more, who reads each row once. So many writes were acknowledged to the
 -- first, and the last found so many rows
-pub record HaveRaced (scopes : List Scope) (opening : SiteState) (clients writes : ℕ) (raced : Raced) : Type 0 where
+pub record HaveRaced (scopes : List Scope) (opening : CoreState) (clients writes : ℕ) (raced : Raced) : Type 0 where
   pub writers : List (ℕ × List Call)
   pub advances : List Call
   pub steps : List Call
@@ -97,8 +97,8 @@ pub record HaveRaced (scopes : List Scope) (opening : SiteState) (clients writes
   pub rows : raced.rows ≡ rows_found reads
 
 -- so it was from an opening, and from one that there is
-abbrev pub RacedFrom : List Scope → (opening : SiteState) → (clients writes : ℕ) → Raced → Type 0
+abbrev pub RacedFrom : List Scope → (opening : CoreState) → (clients writes : ℕ) → Raced → Type 0
 RacedFrom scopes opening clients writes raced = ∥ HaveRaced scopes opening clients writes raced ∥₁
 
 abbrev pub RacedAt : List Scope → (clients writes : ℕ) → Raced → Type 0
-RacedAt scopes clients writes raced = ∥ ((opening : SiteState) × HaveRaced scopes opening clients writes raced) ∥₁
+RacedAt scopes clients writes raced = ∥ ((opening : CoreState) × HaveRaced scopes opening clients writes raced) ∥₁

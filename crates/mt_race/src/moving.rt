@@ -1,6 +1,6 @@
 //! The move that a race is about: the table `corder` goes from `commerce` to `customer` by the workflow `mv`.
 ghost use Rattle.std.specs.Prelude.{◌≡◌, codes};
-ghost use Rattle.mt_site.specs.Stood.{IsSiteWith};
+ghost use Rattle.mt_site.specs.Stood.{IsCoreWith};
 ghost use Rattle.mt_race.specs.Agreements.{corder};
 
 use crate::RaceFault;
@@ -84,7 +84,7 @@ fn events() -> [Event; 5] {
 /// Applies what comes before a race: `Setup` with the first refusal.
 pub(crate) fn set_up<W: Asks>(site: &mut Site<W>) -> Result<(), RaceFault>
     ensures watchers { site.new.watchers ≡ site.old.watchers }
-    ensures stood { IsSiteWith (W.scopes site.old.watchers) site.old.core → IsSiteWith (W.scopes site.new.watchers) site.new.core }
+    ensures stood { IsCoreWith (W.scopes site.old.watchers) site.old.core → IsCoreWith (W.scopes site.new.watchers) site.new.core }
 {
     for event in &events() {
         if let Err(refusal) = site.apply(event) {

@@ -1,7 +1,7 @@
 //! The race.
 ghost use Rattle.std.specs.Prelude.{◌≡◌, ◌+◌, ◌≤◌, ◌++◌, true, [], ◌∷◌, IfOk, length, map};
 ghost use Rattle.mt_desk.specs.Passes.{HaveOneHistory};
-ghost use Rattle.mt_site.specs.Stood.{IsSiteWith};
+ghost use Rattle.mt_site.specs.Stood.{IsCoreWith};
 ghost use Rattle.mt_race.specs.Agreements.{AreAsked, AreWriters, RacedAt, RacedFrom, acknowledged_in, all_reads, rows_found};
 
 use crate::RaceFault;
@@ -305,7 +305,7 @@ fn race_named<
     requires list { opened.seen.book ≡ D.book }
     requires opening { site.core ≡ D.opening }
     requires scopes { W.scopes site.watchers ≡ D.scopes }
-    requires stood { IsSiteWith D.scopes site.core }
+    requires stood { IsCoreWith D.scopes site.core }
     ensures agree { IfOk result (λ raced. raced.agree ≡ true → raced.acknowledged ≡ raced.rows) }
     ensures raced { IfOk result (λ raced. raced.agree ≡ true → RacedFrom D.scopes D.opening clients writes raced) }
 {

@@ -1,3 +1,2 @@
 pub mod DriveLemmas
-pub mod RoutesLemmas
 pub mod ViewLemmas

@@ -12,14 +12,15 @@ use Rattle.mt_names.specs.declared.types.TabletType.TheVariants.{Primary, Replic
 use Rattle.mt_names.specs.Names.{same_text}
 use Rattle.mt_names.specs.Same.{DecidesEquality, same_key}
 use Rattle.mt_names.proofs.SameLemmas.{same_key_decides, same_text_decides}
+use Rattle.mt_names.proofs.BoolLemmas.{both}
 use Rattle.mt_model.specs.contracts.entries.EntryPartialEq.TheImpl as of_entry
-use Rattle.mt_model.specs.contracts.entries.EntryKeyPartialEq.TheImpl as of_about
 use Rattle.mt_model.specs.declared.entries.Entry.{Entry}
 use Rattle.mt_model.specs.declared.entries.Entry.TheVariants as entry
 use Rattle.mt_model.specs.declared.entries.EntryKey.{EntryKey}
 use Rattle.mt_model.specs.declared.entries.EntryKey.TheVariants as about
 use Rattle.mt_model.specs.Part.{part_keys, table_part_keys}
 use Rattle.mt_model.specs.Topology.{Keyspaces, Marks, Rules, is_marked, is_routed, key_of, value_of}
+use Rattle.mt_model.proofs.AboutLemmas.{same_about, same_about_decides}
 use Rattle.mt_plain.specs.Answers.{IsView}
 use Rattle.mt_plain.specs.Plain.{Live, Plain, among, has_part, part_owner}
 use Rattle.mt_plain.specs.Serve.{served_by, served_entry}
@@ -28,9 +29,6 @@ use Rattle.mt_plain.specs.Serve.{served_by, served_entry}
 
 abbrev pub same_entry : Entry → Entry → Bool
 same_entry = of_entry.ghosts.eq
-
-abbrev pub same_about : EntryKey → EntryKey → Bool
-same_about = of_about.ghosts.eq
 
 pub same_entry_decides : DecidesEquality same_entry
 same_entry_decides (entry.Rule j None) (entry.Rule k None) = search rules
@@ -45,9 +43,6 @@ same_entry_decides (entry.Denied keyspace table mark) (entry.Present k t m) = se
 same_entry_decides (entry.Present keyspace table mark) (entry.Rule k other) = search rules
 same_entry_decides (entry.Present keyspace table mark) (entry.Denied k t m) = search rules
 same_entry_decides (entry.Present keyspace table mark) (entry.Present k t m) = search rules
-
-pub same_about_decides : DecidesEquality same_about
-same_about_decides = search rules
 
 -- ---- where a rule or a table may be served
 
@@ -67,10 +62,6 @@ places p = rules_in p.topology.rules ++ (tables_in p.topology.keyspaces ++ parts
 either : (a b : Bool) → (a || b) ≡ true → a ≡ false → b ≡ true
 either true b is not_a = absurd (true≢false not_a)
 either false b is not_a = is
-
-pub both : (a b : Bool) → (a && b) ≡ true → (a ≡ true) × (b ≡ true)
-both true b is = (refl, is)
-both false b is = absurd (true≢false (sym is))
 
 -- the keys of a table
 rule_of_name : (source target table : List ℕ) (tablet_type : Option TabletType) → Contains (table_part_keys source target table) (about.Rule (record { keyspace = None; table = table; tablet_type = tablet_type }))

@@ -20,7 +20,7 @@ use Rattle.mt_plain.specs.Events as plain
 use Rattle.mt_plain.specs.Output.{Told, line_feed, refused_text, says, told_line}
 use Rattle.mt_plain.specs.Plain.{Plain}
 use Rattle.mt_plain.specs.Script.{Command, Request, advance_in, change_at, command, create, drive, event, get_at, read_line, request_of, type_of}
-use Rattle.mt_io.specs.Bytes.{Known}
+use Rattle.mt_script.specs.Bytes.{Known}
 use Rattle.mt_script.specs.declared.lines.LineRefusal.{LineRefusal}
 use Rattle.mt_script.specs.declared.lines.LineRefusal.TheVariants as refusal
 use Rattle.mt_script.specs.declared.lines.RowAsked.{RowAsked}
@@ -28,7 +28,7 @@ use Rattle.mt_script.specs.declared.lines.RowAsked.TheVariants as row
 use Rattle.mt_script.specs.declared.lines.WorkflowAsked.{WorkflowAsked}
 use Rattle.mt_script.specs.declared.lines.WorkflowAsked.TheVariants as of_workflow
 use Rattle.mt_script.specs.Lines.{asked_from, line_refusal_text, op_from, refusal_from, row_from, table_read}
-use Rattle.mt_site_state.specs.Ways.{SiteStands, SiteState}
+use Rattle.mt_stands.specs.Ways.{CoreStands, CoreState}
 use Rattle.mt_workflow.specs.Workflows.{stream_name}
 use Rattle.mt_run.specs.Runs.{IsAnswered, IsNamed, RunsLine}
 use Rattle.mt_run.proofs.RunLemmas.{document_tells_made, fault_waits, line_waits, named_waits}
@@ -79,7 +79,7 @@ refused_says : (p : Plain) (r : LineRefusal) → told_line p (refusal_from r) �
 refused_says p refusal.BadLine = refl
 refused_says p refusal.TooLong = refl
 
-pub refused_waits : (scopes : List Scope) (p : Plain) (line : List ℕ) (core : SiteState) (held : Known) (waiting waiting' : List ℕ) (r : LineRefusal) → refusal_from r ≡ read_line line → SiteStands p scopes core
+pub refused_waits : (scopes : List Scope) (p : Plain) (line : List ℕ) (core : CoreState) (held : Known) (waiting waiting' : List ℕ) (r : LineRefusal) → refusal_from r ≡ read_line line → CoreStands p scopes core
     → waiting' ≡ waiting ++ refused_text (line_refusal_text r) ++ line_feed → RunsLine scopes p line core held held waiting waiting' (Ok tt)
 refused_waits scopes p line core held waiting waiting' r is stands added =
     let text = refused_text (line_refusal_text r) in
@@ -91,16 +91,16 @@ made_says (Ok text) bytes due t is same = is ∙ ap says (sym same)
 made_says (Err fault) bytes due t is same = tt
 
 -- a line whose command's names are read is answered, and one with a fault in a name is as soon as the fault is told
-abbrev pub IsLineNamed : List Scope → Plain → (line : List ℕ) → SiteState → Known → (waiting waiting' : List ℕ) → Result Unit NameFault → Type 0
+abbrev pub IsLineNamed : List Scope → Plain → (line : List ℕ) → CoreState → Known → (waiting waiting' : List ℕ) → Result Unit NameFault → Type 0
 IsLineNamed scopes p line core held waiting waiting' (Ok done) = RunsLine scopes p line core held held waiting waiting' (Ok tt)
 IsLineNamed scopes p line core held waiting waiting' (Err fault) =
     (more : List ℕ) → more ≡ waiting' ++ refused_text (fault_text fault) ++ line_feed → RunsLine scopes p line core held held waiting more (Ok tt)
 
-pub line_named : (scopes : List Scope) (p : Plain) (line : List ℕ) (old core : SiteState) (held : Known) (waiting waiting' : List ℕ) (c : Command) (named : Result Unit NameFault) → command c ≡ read_line line
-    → SiteStands p scopes old → IsNamed scopes old c waiting waiting' named core → IsLineNamed scopes p line core held waiting waiting' named
+pub line_named : (scopes : List Scope) (p : Plain) (line : List ℕ) (old core : CoreState) (held : Known) (waiting waiting' : List ℕ) (c : Command) (named : Result Unit NameFault) → command c ≡ read_line line
+    → CoreStands p scopes old → IsNamed scopes old c waiting waiting' named core → IsLineNamed scopes p line core held waiting waiting' named
 line_named scopes p line old core held waiting waiting' c (Ok done) is stands named = named_waits scopes p line core held waiting waiting' c (sym is) old named stands
 line_named scopes p line old core held waiting waiting' c (Err fault) is stands (wrong, same, none) = λ more added.
-    fault_waits scopes p line core held waiting more c (sym is) fault wrong (subst (SiteStands p scopes) (sym same) stands) (added ∙ ap (λ (w : List ℕ). w ++ refused_text (fault_text fault) ++ line_feed) none)
+    fault_waits scopes p line core held waiting more c (sym is) fault wrong (subst (CoreStands p scopes) (sym same) stands) (added ∙ ap (λ (w : List ℕ). w ++ refused_text (fault_text fault) ++ line_feed) none)
 
 -- ---- a workflow that is made
 
@@ -188,18 +188,3 @@ types_read make text types is = then_ok (λ t. Ok (make t)) (read_type_set text)
 -- or the range of its shard
 pub range_read : (make : KeyRange → Request) (text : List ℕ) (range : KeyRange) → Ok range ≡ read_range text → (read_range text >>= λ r. Ok (make r)) ≡ Ok (make range)
 range_read make text range is = then_ok (λ r. Ok (make r)) (read_range text) range (Ok (make range)) is refl
-
--- ---- whole drives
-
--- what is answered is so of equal parts. (A drive has many turns, and two statements of it are not to be compared turn by turn.)
-pub drive_alike : (scopes others : List Scope) (old start : SiteState) (name workflow : List ℕ) (types more : TypeSet) (back : Bool) (waiting before : List ℕ) (waiting' behind : List ℕ) (new end : SiteState)
-    → scopes ≡ others → old ≡ start → name ≡ workflow → types ≡ more → waiting ≡ before → waiting' ≡ behind → new ≡ end
-    → IsAnswered scopes old (drive name types back) waiting waiting' new → IsAnswered others start (drive workflow more back) before behind end
-drive_alike scopes others old start name workflow types more back waiting before waiting' behind new end s o n t w w' e answered =
-    subst (λ x. IsAnswered x start (drive workflow more back) before behind end) s
-    (subst (λ x. IsAnswered scopes x (drive workflow more back) before behind end) o
-    (subst (λ x. IsAnswered scopes old (drive x more back) before behind end) n
-    (subst (λ x. IsAnswered scopes old (drive name x back) before behind end) t
-    (subst (λ x. IsAnswered scopes old (drive name types back) x behind end) w
-    (subst (λ x. IsAnswered scopes old (drive name types back) waiting x end) w'
-    (subst (λ x. IsAnswered scopes old (drive name types back) waiting waiting' x) e answered))))))

@@ -1,9 +1,9 @@
 -- A document that was read, and written in its canonical form.
 use Rattle.std.proofs.Common.{◌≡◌, ◌++◌, ℕ, Bool, List, [], Result, Ok, Err, sym, subst, inr}
 use Rattle.mt_plain.specs.Output.{line_feed}
-use Rattle.mt_io.specs.declared.fault.ScriptFault.{ScriptFault}
-use Rattle.mt_io.specs.declared.fault.ScriptFault.TheVariants as fault
-use Rattle.mt_io.specs.Bytes.{IsCutShort, Known, Reads, Writes}
+use Rattle.mt_script.specs.declared.fault.ScriptFault.{ScriptFault}
+use Rattle.mt_script.specs.declared.fault.ScriptFault.TheVariants as fault
+use Rattle.mt_script.specs.Bytes.{IsCutShort, Known, Reads, Writes}
 use Rattle.mt_run.specs.Canon.{WritesCanon, WritesLine}
 
 -- one that is read is written, or finds no memory

@@ -25,7 +25,7 @@ use Rattle.mt_plain.specs.Plain.{Plain}
 use Rattle.mt_plain.specs.Script.{Command, change, get, read_through, request_of, type_of, write_through}
 use Rattle.mt_plain.specs.Serve.{served}
 use Rattle.mt_site.specs.ByHand.{read_from}
-use Rattle.mt_site_state.specs.Ways.{SiteStands, SiteState}
+use Rattle.mt_stands.specs.Ways.{CoreStands, CoreState}
 use Rattle.mt_run.specs.Names.{plain_key}
 use Rattle.mt_run.specs.Rows.{ReadThrough, WrittenThrough}
 use Rattle.mt_run.specs.Runs.{Tells, through_text}
@@ -52,13 +52,13 @@ table_key name reads = by (read_table name) refl
 
 -- ---- answers
 
-module _ (scopes : List Scope) (p : Plain) (old new : SiteState) (stands : SiteStands p scopes old) (name : List ℕ) where
+module _ (scopes : List Scope) (p : Plain) (old new : CoreState) (stands : CoreStands p scopes old) (name : List ℕ) where
   pub write_told : (op : Op) (key : RuleKey) (told : Result (Result Unit Reason) TopologyFault) → read_key name ≡ Ok key → WrittenThrough old key op told new
       → Tells scopes p (told_request p (request_of (change name op))) (Some (through_text done_by told)) new
   write_told op key told reads written =
       let ask : (keyspace table : List ℕ) → plain.Event = λ keyspace table. plain.write keyspace table op in
       subst (λ r. Tells scopes p (told_request p (r >>= λ k. Ok (write_through k op))) (Some (through_text done_by told)) new) (sym reads)
-      (through_told _ scopes p old new (resolution (served p) key Primary) ask done_by told _ refl (written scopes p stands) (λ same. subst (SiteStands p scopes) (sym same) stands) stands)
+      (through_told _ scopes p old new (resolution (served p) key Primary) ask done_by told _ refl (written scopes p stands) (λ same. subst (CoreStands p scopes) (sym same) stands) stands)
 
   pub read_told : (number : ℕ) (key : RuleKey) (for_type : TabletType) (told : Result (Result (Option RowValue) Reason) TopologyFault) → new ≡ old → read_key name ≡ Ok key → for_type ≡ type_of key → ReadThrough old key number for_type told
       → Tells scopes p (told_request p (request_of (get name number))) (Some (through_text read_from told)) new

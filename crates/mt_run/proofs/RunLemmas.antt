@@ -27,11 +27,11 @@ use Rattle.mt_plain.specs.Script as script
 use Rattle.mt_plain.specs.Serve.{served}
 use Rattle.mt_laws.proofs.OutputLemmas.{output_from-is_written, output_from_memory}
 use Rattle.mt_laws.proofs.ScriptRunLemmas.{script_keeps_the_headline}
-use Rattle.mt_io.specs.declared.fault.ScriptFault.{ScriptFault}
-use Rattle.mt_io.specs.declared.fault.ScriptFault.TheVariants as fault
-use Rattle.mt_io.specs.Bytes.{GoesOut, Known, Reads, Writes}
-use Rattle.mt_io.proofs.GoesLemmas.{cut_before, goes_on, nothing_out}
-use Rattle.mt_site_state.specs.Ways.{SiteStands, SiteState, SiteSteps}
+use Rattle.mt_script.specs.declared.fault.ScriptFault.{ScriptFault}
+use Rattle.mt_script.specs.declared.fault.ScriptFault.TheVariants as fault
+use Rattle.mt_script.specs.Bytes.{GoesOut, Known, Reads, Writes}
+use Rattle.mt_script.proofs.GoesLemmas.{cut_before, goes_on, nothing_out}
+use Rattle.mt_stands.specs.Ways.{CoreStands, CoreState, CoreSteps}
 use Rattle.mt_run.specs.Rows.{IsThrough}
 use Rattle.mt_run.specs.Runs.{AsksDocument, IsAnswered, IsNamed, IsTold, Runs, RunsLine, RunsLines, Tells, bytes_of, is_document, through_text}
 
@@ -59,12 +59,12 @@ drive_end Ends (suc turns) d p (answer, answers, went) =
     (end.0, end.1, end.2, λ Ends' then. (answer, answers, end.3 Ends' then))
 
 -- what a line tells adds its text to whatever the rest adds from the next state
-tells_adds : (scopes : List Scope) (q : Plain) (t : Told) (text : Option (List ℕ)) (core : SiteState) → Tells scopes q t text core
-    → (r : Plain) × SiteStands r scopes core × ((Rest : Plain → List ℕ → Type 0) (out : List ℕ) → Rest r out → Adds Answers q t Rest (bytes_of text ++ out))
+tells_adds : (scopes : List Scope) (q : Plain) (t : Told) (text : Option (List ℕ)) (core : CoreState) → Tells scopes q t text core
+    → (r : Plain) × CoreStands r scopes core × ((Rest : Plain → List ℕ → Type 0) (out : List ℕ) → Rest r out → Adds Answers q t Rest (bytes_of text ++ out))
 tells_adds scopes q nothing text core (none, stands) = (q, stands, λ Rest out rest. rw none rest)
 tells_adds scopes q (says words) text core (some, stands) = (q, stands, λ Rest out rest. (out, ap (λ o. bytes_of o ++ out) some, rest))
 tells_adds scopes q (drives driving) text core drove =
-    let end = drive_end (λ ended r. (text ≡ Some (plain.ended_text ended ++ line_feed)) × SiteStands r scopes core) most_turns driving q drove in (
+    let end = drive_end (λ ended r. (text ≡ Some (plain.ended_text ended ++ line_feed)) × CoreStands r scopes core) most_turns driving q drove.drove in (
       end.0,
       end.2.1,
       λ Rest out rest.
@@ -74,30 +74,30 @@ tells_adds scopes q (asks event) text core (answer, answers, some, stands) =
     (next q event answer, stands, λ Rest out rest. (answer, out, answers, ap (λ o. bytes_of o ++ out) some, rest))
 
 -- the answer to an event, told
-asks_told : (scopes : List Scope) (old new : SiteState) (event : Event) (answer : Answer) (text : List ℕ) → text ≡ plain.answer_text answer ++ line_feed → SiteSteps scopes old event answer new
-    → (p : Plain) → SiteStands p scopes old → Tells scopes p (asks event) (Some text) new
+asks_told : (scopes : List Scope) (old new : CoreState) (event : Event) (answer : Answer) (text : List ℕ) → text ≡ plain.answer_text answer ++ line_feed → CoreSteps scopes old event answer new
+    → (p : Plain) → CoreStands p scopes old → Tells scopes p (asks event) (Some text) new
 asks_told scopes old new event answer text is steps p stands = let then = steps p stands in (answer, then.0, ap Some is, then.1)
 
 -- the answer to an event stands behind what waited
-pub answered : (scopes : List Scope) (old new : SiteState) (event : Event) (answer : Answer) (waiting waiting' : List ℕ) → waiting' ≡ waiting ++ plain.answer_text answer ++ line_feed
-    → SiteSteps scopes old event answer new → IsAnswered scopes old (script.event event) waiting waiting' new
+pub answered : (scopes : List Scope) (old new : CoreState) (event : Event) (answer : Answer) (waiting waiting' : List ℕ) → waiting' ≡ waiting ++ plain.answer_text answer ++ line_feed
+    → CoreSteps scopes old event answer new → IsAnswered scopes old (script.event event) waiting waiting' new
 answered scopes old new event answer waiting waiting' added steps =
     λ p stands. (plain.answer_text answer ++ line_feed, asks_told scopes old new event answer _ refl steps p stands, added ∙ append_assoc waiting (plain.answer_text answer) line_feed)
 
 -- ---- a shard, through its range
 
-module _ (scopes : List Scope) (old : SiteState) (workflow : List ℕ) (stream : StreamName) (range : KeyRange) (at at_most : ℕ) where
+module _ (scopes : List Scope) (old : CoreState) (workflow : List ℕ) (stream : StreamName) (range : KeyRange) (at at_most : ℕ) where
   -- what is asked of a shard that was looked up
   abbrev told_in : Result ℕ Refusal → Told
   told_in found = asked_in found (λ shard. advance workflow stream shard at at_most)
 
   -- how each state looks it up
   abbrev pub Found : Result ℕ Refusal → Type 0
-  Found found = (p : Plain) → SiteStands p scopes old → found ≡ shard_of_range (live_at p workflow) range
+  Found found = (p : Plain) → CoreStands p scopes old → found ≡ shard_of_range (live_at p workflow) range
 
   -- the answer in the shard stands behind what waited
-  pub advanced_in : (new : SiteState) (shard : ℕ) (answer : Answer) (waiting waiting' : List ℕ) → waiting' ≡ waiting ++ plain.answer_text answer ++ line_feed → Found (Ok shard)
-      → SiteSteps scopes old (advance workflow stream shard at at_most) answer new → IsAnswered scopes old (script.advance_in workflow stream range at at_most) waiting waiting' new
+  pub advanced_in : (new : CoreState) (shard : ℕ) (answer : Answer) (waiting waiting' : List ℕ) → waiting' ≡ waiting ++ plain.answer_text answer ++ line_feed → Found (Ok shard)
+      → CoreSteps scopes old (advance workflow stream shard at at_most) answer new → IsAnswered scopes old (script.advance_in workflow stream range at at_most) waiting waiting' new
   advanced_in new shard answer waiting waiting' added found steps = λ p stands.
       let text : List ℕ = plain.answer_text answer ++ line_feed in (
         text,
@@ -115,42 +115,44 @@ module _ (scopes : List Scope) (old : SiteState) (workflow : List ℕ) (stream :
 -- ---- a row, through a name
 
 -- the answer where the name leads, told
-answered_through : {A : Type 0} (Stays : Type 0) (scopes : List Scope) (p : Plain) (old new : SiteState) (led : Result RuleTarget TopologyFault) (ask : (keyspace table : List ℕ) → Event)
+answered_through : {A : Type 0} (Stays : Type 0) (scopes : List Scope) (p : Plain) (old new : CoreState) (led : Result RuleTarget TopologyFault) (ask : (keyspace table : List ℕ) → Event)
     (answer_of : A → Answer) (told : A) (text : List ℕ) → text ≡ plain.answer_text (answer_of told) ++ line_feed
-    → IsThrough led Stays (λ target answer. SiteSteps scopes old (ask target.keyspace target.table) (answer_of answer) new) (Ok told)
-    → SiteStands p scopes old → Tells scopes p (asked_there led ask) (Some text) new
+    → IsThrough led Stays (λ target answer. CoreSteps scopes old (ask target.keyspace target.table) (answer_of answer) new) (Ok told)
+    → CoreStands p scopes old → Tells scopes p (asked_there led ask) (Some text) new
 answered_through Stays scopes p old new (Ok target) ask answer_of told text is steps stands = asks_told scopes old new (ask target.keyspace target.table) (answer_of told) text is steps p stands
 answered_through Stays scopes p old new (Err fault) ask answer_of told text is steps stands = absurd steps
 
 -- that the name leads nowhere, told
-nowhere_told : {A : Type 0} (Stays : Type 0) (Answers : RuleTarget → A → Type 0) (scopes : List Scope) (p : Plain) (new : SiteState) (led : Result RuleTarget TopologyFault)
+nowhere_told : {A : Type 0} (Stays : Type 0) (Answers : RuleTarget → A → Type 0) (scopes : List Scope) (p : Plain) (new : CoreState) (led : Result RuleTarget TopologyFault)
     (ask : (keyspace table : List ℕ) → Event) (told : TopologyFault) (text : List ℕ) → text ≡ refused_text (topology_fault_text told) ++ line_feed
-    → IsThrough led Stays Answers (Err told) → (Stays → SiteStands p scopes new) → Tells scopes p (asked_there led ask) (Some text) new
+    → IsThrough led Stays Answers (Err told) → (Stays → CoreStands p scopes new) → Tells scopes p (asked_there led ask) (Some text) new
 nowhere_told Stays Answers scopes p new (Ok target) ask told text is nowhere stands = absurd nowhere
 nowhere_told Stays Answers scopes p new (Err fault) ask told text is nowhere stands =
     (ap Some (is ∙ ap (λ f. refused_text (topology_fault_text f) ++ line_feed) nowhere.0), stands nowhere.1)
 
 -- either of them, told
-pub through_told : {A : Type 0} (Stays : Type 0) (scopes : List Scope) (p : Plain) (old new : SiteState) (led : Result RuleTarget TopologyFault) (ask : (keyspace table : List ℕ) → Event)
+pub through_told : {A : Type 0} (Stays : Type 0) (scopes : List Scope) (p : Plain) (old new : CoreState) (led : Result RuleTarget TopologyFault) (ask : (keyspace table : List ℕ) → Event)
     (answer_of : A → Answer) (result : Result A TopologyFault) (text : List ℕ) → text ≡ through_text answer_of result
-    → IsThrough led Stays (λ target answer. SiteSteps scopes old (ask target.keyspace target.table) (answer_of answer) new) result
-    → (Stays → SiteStands p scopes new) → SiteStands p scopes old → Tells scopes p (asked_there led ask) (Some text) new
+    → IsThrough led Stays (λ target answer. CoreSteps scopes old (ask target.keyspace target.table) (answer_of answer) new) result
+    → (Stays → CoreStands p scopes new) → CoreStands p scopes old → Tells scopes p (asked_there led ask) (Some text) new
 through_told Stays scopes p old new led ask answer_of (Ok told) text is steps stays stands = answered_through Stays scopes p old new led ask answer_of told text is steps stands
 through_told Stays scopes p old new led ask answer_of (Err fault) text is nowhere stays stands =
-    nowhere_told Stays (λ target answer. SiteSteps scopes old (ask target.keyspace target.table) (answer_of answer) new) scopes p new led ask fault text is nowhere stays
+    nowhere_told Stays (λ target answer. CoreSteps scopes old (ask target.keyspace target.table) (answer_of answer) new) scopes p new led ask fault text is nowhere stays
 
 -- the end of a drive stands behind what waited
-pub driven : (scopes : List Scope) (old new : SiteState) (workflow : List ℕ) (types : TypeSet) (back : Bool) (ended : Result Driven Refusal) (waiting waiting' : List ℕ)
+pub driven : (scopes : List Scope) (old new : CoreState) (workflow : List ℕ) (types : TypeSet) (back : Bool) (ended : Result Driven Refusal) (waiting waiting' : List ℕ)
     → waiting' ≡ waiting ++ plain.ended_text ended ++ line_feed
-    → ((p : Plain) → SiteStands p scopes old → Drives Answers most_turns (λ end q. (end ≡ ended) × SiteStands q scopes new) (turn.begins workflow types back) p)
+    → ((p : Plain) → CoreStands p scopes old → Drives Answers most_turns (λ end q. (end ≡ ended) × CoreStands q scopes new) (turn.begins workflow types back) p)
     → IsAnswered scopes old (script.drive workflow types back) waiting waiting' new
 driven scopes old new workflow types back ended waiting waiting' added drove = λ p stands. (plain.ended_text ended ++ line_feed, told_of p stands, added ∙ append_assoc waiting (plain.ended_text ended) line_feed)
   where
-    told_of : (p : Plain) → SiteStands p scopes old → Tells scopes p (drives (turn.begins workflow types back)) (Some (plain.ended_text ended ++ line_feed)) new
+    told_of : (p : Plain) → CoreStands p scopes old → Tells scopes p (drives (turn.begins workflow types back)) (Some (plain.ended_text ended ++ line_feed)) new
     told_of p stands =
-        let end = drive_end (λ e q. (e ≡ ended) × SiteStands q scopes new) most_turns (turn.begins workflow types back) p (drove p stands) in
-        end.3 (λ e q. (Some (plain.ended_text ended ++ line_feed) ≡ Some (plain.ended_text e ++ line_feed)) × SiteStands q scopes new)
-        (ap Some (ap (λ e. plain.ended_text e ++ line_feed) (sym end.2.0)), end.2.1)
+        let end = drive_end (λ e q. (e ≡ ended) × CoreStands q scopes new) most_turns (turn.begins workflow types back) p (drove p stands) in
+        record {
+          drove = end.3 (λ e q. (Some (plain.ended_text ended ++ line_feed) ≡ Some (plain.ended_text e ++ line_feed)) × CoreStands q scopes new)
+              (ap Some (ap (λ e. plain.ended_text e ++ line_feed) (sym end.2.0)), end.2.1);
+        }
 
 -- ---- a document
 
@@ -182,24 +184,24 @@ document_says p (script.complete w) is = absurd cc
 document_says p (script.show w) is = absurd cc
 
 -- what a line tells that asks for a document
-document_tells : (scopes : List Scope) (p : Plain) (line : List ℕ) (core : SiteState) → SiteStands p scopes core → AsksDocument line → (text : List ℕ) × Tells scopes p (told read_line p line) (Some text) core
+document_tells : (scopes : List Scope) (p : Plain) (line : List ℕ) (core : CoreState) → CoreStands p scopes core → AsksDocument line → (text : List ℕ) × Tells scopes p (told read_line p line) (Some text) core
 document_tells scopes p line core stands (c, is, same) =
     let words = document_says p c is in
     (words.0 ++ line_feed, subst (λ t. Tells scopes p t (Some (words.0 ++ line_feed)) core) (sym words.1 ∙ command_told p line c same) (refl, stands))
 
 -- a document that is made is what such a line tells
-pub document_tells_made : (scopes : List Scope) (p : Plain) (line : List ℕ) (core : SiteState) (text : List ℕ) → SiteStands p scopes core → told read_line p line ≡ says text
+pub document_tells_made : (scopes : List Scope) (p : Plain) (line : List ℕ) (core : CoreState) (text : List ℕ) → CoreStands p scopes core → told read_line p line ≡ says text
     → Tells scopes p (told read_line p line) (Some (text ++ line_feed)) core
 document_tells_made scopes p line core text stands is = subst (λ t. Tells scopes p t (Some (text ++ line_feed)) core) (sym is) (refl, stands)
 
 -- ---- a command
 
 -- a line's text stands behind what waited, and nothing goes out
-module _ (scopes : List Scope) (p : Plain) (line : List ℕ) (core : SiteState) (held : Known) (waiting waiting' : List ℕ) where
+module _ (scopes : List Scope) (p : Plain) (line : List ℕ) (core : CoreState) (held : Known) (waiting waiting' : List ℕ) where
   pub line_waits : IsTold scopes p (told read_line p line) waiting waiting' core → RunsLine scopes p line core held held waiting waiting' (Ok tt)
   line_waits (text, tells, added) = (Some text, tells, subst (λ (rest : List ℕ). GoesOut held held (waiting ++ text) rest) (sym added) (nothing_out held (waiting ++ text)))
 
-  pub line_silent : told read_line p line ≡ nothing → SiteStands p scopes core → waiting' ≡ waiting → RunsLine scopes p line core held held waiting waiting' (Ok tt)
+  pub line_silent : told read_line p line ≡ nothing → CoreStands p scopes core → waiting' ≡ waiting → RunsLine scopes p line core held held waiting waiting' (Ok tt)
   line_silent is stands same =
       (None, subst (λ t. Tells scopes p t None core) (sym is) (refl, stands), subst (λ (rest : List ℕ). GoesOut held held (waiting ++ []) rest) (append-nil waiting ∙ sym same) (nothing_out held (waiting ++ [])))
 
@@ -208,15 +210,15 @@ module _ (scopes : List Scope) (p : Plain) (line : List ℕ) (core : SiteState) 
     pub command_waits : IsTold scopes p (told_request p (request_of c)) waiting waiting' core → RunsLine scopes p line core held held waiting waiting' (Ok tt)
     command_waits tells = line_waits (subst (λ t. IsTold scopes p t waiting waiting' core) (command_told p line c is) tells)
 
-    pub fault_waits : (fault : NameFault) → request_of c ≡ Err fault → SiteStands p scopes core → waiting' ≡ waiting ++ refused_text (fault_text fault) ++ line_feed
+    pub fault_waits : (fault : NameFault) → request_of c ≡ Err fault → CoreStands p scopes core → waiting' ≡ waiting ++ refused_text (fault_text fault) ++ line_feed
         → RunsLine scopes p line core held held waiting waiting' (Ok tt)
     fault_waits fault wrong stands added =
         command_waits (subst (λ r. IsTold scopes p (told_request p r) waiting waiting' core) (sym wrong) (refused_text (fault_text fault) ++ line_feed, (refl, stands), added ∙ append_assoc waiting (refused_text (fault_text fault)) line_feed))
 
-    pub named_waits : (old : SiteState) → IsNamed scopes old c waiting waiting' (Ok tt) core → SiteStands p scopes old → RunsLine scopes p line core held held waiting waiting' (Ok tt)
+    pub named_waits : (old : CoreState) → IsNamed scopes old c waiting waiting' (Ok tt) core → CoreStands p scopes old → RunsLine scopes p line core held held waiting waiting' (Ok tt)
     named_waits old (request, reads, answers) stands = command_waits (subst (λ r. IsTold scopes p (told_request p r) waiting waiting' core) (sym reads) (answers p stands))
 
-module _ (scopes : List Scope) (p : Plain) (line : List ℕ) (core : SiteState) (held held' : Known) (waiting waiting' : List ℕ) where
+module _ (scopes : List Scope) (p : Plain) (line : List ℕ) (core : CoreState) (held held' : Known) (waiting waiting' : List ℕ) where
   -- a text goes behind what waits
   pub line_written : (text : Option (List ℕ)) (result : Result Unit ScriptFault) → Tells scopes p (told read_line p line) text core → Writes held held' (waiting ++ bytes_of text) waiting' result
       → RunsLine scopes p line core held held' waiting waiting' result
@@ -227,7 +229,7 @@ module _ (scopes : List Scope) (p : Plain) (line : List ℕ) (core : SiteState) 
   pub document_wanting : AsksDocument line → GoesOut held held' waiting waiting' → waiting' ≡ [] → RunsLine scopes p line core held held' waiting waiting' (Err fault.Memory)
   document_wanting wants (written, went, all) none = (wants, subst (Appends held held') (sym (all ∙ ap (λ (t : List ℕ). written ++ t) none ∙ append-nil written)) went)
 
-  pub document_unwritten : (f : ScriptFault) → AsksDocument line × SiteStands p scopes core → Writes held held' waiting waiting' (Err f) → RunsLine scopes p line core held held' waiting waiting' (Err f)
+  pub document_unwritten : (f : ScriptFault) → AsksDocument line × CoreStands p scopes core → Writes held held' waiting waiting' (Err f) → RunsLine scopes p line core held held' waiting waiting' (Err f)
   document_unwritten f (wants, stands) (is_write, none, out) =
       let text = document_tells scopes p line core stands wants in
       subst (λ g. RunsLine scopes p line core held held' waiting waiting' (Err g)) (sym is_write) (Some text.0, text.1, cut_before held held' waiting text.0 out)
@@ -236,12 +238,12 @@ module _ (scopes : List Scope) (p : Plain) (line : List ℕ) (core : SiteState) 
 
 -- a state that the core stands for; the lines that are done; what was to be written, of which some waits; and whatever
 -- completes more lines completes the lines that are done and these
-abbrev pub SoFar : List Scope → Plain → (script rest : List ℕ) → SiteState → Known → Known → (waiting : List ℕ) → Type 0
+abbrev pub SoFar : List Scope → Plain → (script rest : List ℕ) → CoreState → Known → Known → (waiting : List ℕ) → Type 0
 SoFar scopes p script rest core held held' waiting =
-    (q : Plain) × SiteStands q scopes core × ((before : List (List ℕ)) × (all : List ℕ) × (lines script ≡ before ++ lines rest) × GoesOut held held' all waiting
+    (q : Plain) × CoreStands q scopes core × ((before : List (List ℕ)) × (all : List ℕ) × (lines script ≡ before ++ lines rest) × GoesOut held held' all waiting
     × ((more : List (List ℕ)) (out : List ℕ) → Output Answers read_line q more out → Output Answers read_line p (before ++ more) (all ++ out)))
 
-pub begins : (scopes : List Scope) (p : Plain) (script : List ℕ) (core : SiteState) (held : Known) → SiteStands p scopes core → SoFar scopes p script script core held held []
+pub begins : (scopes : List Scope) (p : Plain) (script : List ℕ) (core : CoreState) (held : Known) → CoreStands p scopes core → SoFar scopes p script script core held held []
 begins scopes p script core held stands = (p, stands, ([], [], refl, nothing_out held [], λ more out is. is))
 
 -- some of what waited goes out
@@ -249,7 +251,7 @@ goes_further : (a b c : Known) (all waiting left : List ℕ) → GoesOut a b all
 goes_further a b c all waiting left went more =
     subst (λ x. GoesOut a c x left) (append-nil all) (goes_on a b c all waiting [] left went (subst (λ x. GoesOut b c x left) (sym (append-nil waiting)) more))
 
-module _ (scopes : List Scope) (p : Plain) (script rest : List ℕ) (core : SiteState) (held held' held'' : Known) (waiting waiting' : List ℕ) where
+module _ (scopes : List Scope) (p : Plain) (script rest : List ℕ) (core : CoreState) (held held' held'' : Known) (waiting waiting' : List ℕ) where
   -- what waited goes out before a line, or doesn't
   pub room_made : SoFar scopes p script rest core held held' waiting → GoesOut held' held'' waiting waiting' → SoFar scopes p script rest core held held'' waiting'
   room_made (q, stands, (before, all, done, went, completes)) more = (q, stands, (before, all, done, goes_further held held' held'' all waiting waiting' went more, completes))
@@ -260,14 +262,14 @@ module _ (scopes : List Scope) (p : Plain) (script rest : List ℕ) (core : Site
       let here : Output Answers read_line p (lines script) (all ++ o) = subst (λ ls. Output Answers read_line p ls (all ++ o)) (sym done) (completes (lines rest) o (has_output q (lines rest))) in
       subst (λ g. RunsLines p script held held'' (Err g)) (sym is_write) (all ++ o, here, cut_before held held'' all o (left, some, goes_further held held' held'' all waiting left went writes))
 
-module _ (scopes : List Scope) (p : Plain) (script rest line after : List ℕ) (core core' : SiteState) (held held' held'' : Known) (waiting waiting' : List ℕ) (first : lines rest ≡ line ∷ lines after) where
-  pub line_done : SoFar scopes p script rest core held held' waiting → ((q : Plain) → SiteStands q scopes core → RunsLine scopes q line core' held' held'' waiting waiting' (Ok tt)) → SoFar scopes p script after core' held held'' waiting'
+module _ (scopes : List Scope) (p : Plain) (script rest line after : List ℕ) (core core' : CoreState) (held held' held'' : Known) (waiting waiting' : List ℕ) (first : lines rest ≡ line ∷ lines after) where
+  pub line_done : SoFar scopes p script rest core held held' waiting → ((q : Plain) → CoreStands q scopes core → RunsLine scopes q line core' held' held'' waiting waiting' (Ok tt)) → SoFar scopes p script after core' held held'' waiting'
   line_done (q, stands, (before, all, done, went, completes)) runs = by (runs q stands)
     where
       by : RunsLine scopes q line core' held' held'' waiting waiting' (Ok tt) → SoFar scopes p script after core' held held'' waiting'
       by (text, tells, writes) = from (tells_adds scopes q (told read_line q line) text core' tells)
         where
-          from : (r : Plain) × SiteStands r scopes core' × ((Rest : Plain → List ℕ → Type 0) (out : List ℕ) → Rest r out → Adds Answers q (told read_line q line) Rest (bytes_of text ++ out)) → SoFar scopes p script after core' held held'' waiting'
+          from : (r : Plain) × CoreStands r scopes core' × ((Rest : Plain → List ℕ → Type 0) (out : List ℕ) → Rest r out → Adds Answers q (told read_line q line) Rest (bytes_of text ++ out)) → SoFar scopes p script after core' held held'' waiting'
           from (r, stands', adds) = (
             r,
             stands',
@@ -283,13 +285,13 @@ module _ (scopes : List Scope) (p : Plain) (script rest line after : List ℕ) (
             ),
           )
 
-  pub line_failed : (f : ScriptFault) → SoFar scopes p script rest core held held' waiting → ((q : Plain) → SiteStands q scopes core → RunsLine scopes q line core' held' held'' waiting waiting' (Err f)) → RunsLines p script held held'' (Err f)
+  pub line_failed : (f : ScriptFault) → SoFar scopes p script rest core held held' waiting → ((q : Plain) → CoreStands q scopes core → RunsLine scopes q line core' held' held'' waiting waiting' (Err f)) → RunsLines p script held held'' (Err f)
   line_failed fault.Write (q, stands, (before, all, done, went, completes)) runs = by (runs q stands)
     where
       by : RunsLine scopes q line core' held' held'' waiting waiting' (Err fault.Write) → RunsLines p script held held'' (Err fault.Write)
       by (text, tells, (left, some, writes)) = from (tells_adds scopes q (told read_line q line) text core' tells)
         where
-          from : (r : Plain) × SiteStands r scopes core' × ((Rest : Plain → List ℕ → Type 0) (out : List ℕ) → Rest r out → Adds Answers q (told read_line q line) Rest (bytes_of text ++ out)) → RunsLines p script held held'' (Err fault.Write)
+          from : (r : Plain) × CoreStands r scopes core' × ((Rest : Plain → List ℕ → Type 0) (out : List ℕ) → Rest r out → Adds Answers q (told read_line q line) Rest (bytes_of text ++ out)) → RunsLines p script held held'' (Err fault.Write)
           from (r, stands', adds) =
               let o : List ℕ = output_from read_line r (lines after) in
               let added : Output Answers read_line q (line ∷ lines after) (bytes_of text ++ o) = adds (λ s rest. Output Answers read_line s (lines after) rest) o (has_output r (lines after)) in
@@ -319,7 +321,7 @@ module _ (scopes : List Scope) (p : Plain) (script rest line after : List ℕ) (
 
 -- ---- the end
 
-pub ends : (scopes : List Scope) (p : Plain) (script rest : List ℕ) (core : SiteState) (held held' held'' : Known) (waiting waiting' : List ℕ) (result : Result Unit ScriptFault)
+pub ends : (scopes : List Scope) (p : Plain) (script rest : List ℕ) (core : CoreState) (held held' held'' : Known) (waiting waiting' : List ℕ) (result : Result Unit ScriptFault)
     → SoFar scopes p script rest core held held' waiting → lines rest ≡ [] → Writes held' held'' waiting waiting' result → waiting' ≡ [] → RunsLines p script held held'' result
 ends scopes p script rest core held held' held'' waiting waiting' result (q, stands, (before, all, done, went, completes)) none writes empty = by result writes empty
   where

@@ -6,9 +6,9 @@ use Rattle.mt_names.specs.declared.keys.RuleTarget.{RuleTarget}
 use Rattle.mt_plain.specs.Events.{Answer, StreamName}
 use Rattle.mt_workflow.specs.Workflows.{WorkflowState, slot_of}
 use Rattle.mt_stream.specs.Streams.{StreamValue}
-use Rattle.mt_site_state.specs.Workflows.{AdvancesAt, AdvancesStream, AdvancesWorkflow, OrShardRefused}
-use Rattle.mt_site_state.specs.Core.{CoreState, workflow_at}
-use Rattle.mt_site_events.proofs.PurgeLemmas.{all-behind}
+use Rattle.mt_stands.specs.Workflows.{AdvancesAt, AdvancesStream, AdvancesWorkflow, OrShardRefused}
+use Rattle.mt_stands.specs.Base.{BaseState, workflow_at}
+use Rattle.mt_refinement.proofs.PurgeLemmas.{all-behind}
 use Rattle.mt_site.specs.Applies.{AdvancesAndPurges}
 use Rattle.mt_run.specs.Rows.{IsThrough}
 
@@ -22,11 +22,11 @@ module _ {A : Type 0} (Stays : Type 0) (P : RuleTarget → A → Type 0) (led : 
   nowhere fault leads stays = subst (λ r. IsThrough r Stays P (Err fault)) (sym leads) (refl, stays)
 
 -- an advance leaves the topology
-advance_leaves : (old new : CoreState) (workflow : List ℕ) (name : StreamName) (shard at at_most : ℕ) (answer : Answer)
+advance_leaves : (old new : BaseState) (workflow : List ℕ) (name : StreamName) (shard at at_most : ℕ) (answer : Answer)
     → AdvancesWorkflow old workflow name shard at at_most answer new → new.topology ≡ old.topology
 advance_leaves old new workflow name shard at at_most answer = of_workflow (workflow_at old.workflows workflow)
   where
-    topology_of : CoreState → TopologyState
+    topology_of : BaseState → TopologyState
     topology_of core = core.topology
 
     of_stream : (w : WorkflowState) (stream : Option StreamValue) → AdvancesStream stream old w name shard at at_most answer new → new.topology ≡ old.topology
@@ -43,7 +43,7 @@ advance_leaves old new workflow name shard at at_most answer = of_workflow (work
     of_workflow (Some w) is = of_shard w (nat_lt shard (length w.lanes)) is
 
 -- and so does the purge behind it
-pub advance_leaves_topology : (old new : CoreState) (workflow : List ℕ) (name : StreamName) (shard at at_most : ℕ) (answer : Answer)
+pub advance_leaves_topology : (old new : BaseState) (workflow : List ℕ) (name : StreamName) (shard at at_most : ℕ) (answer : Answer)
     → AdvancesAndPurges old workflow name shard at at_most answer new → new.topology ≡ old.topology
 advance_leaves_topology old new workflow name shard at at_most answer (made, advances, purges) =
     (all-behind made new answer purges).topology ∙ advance_leaves old made workflow name shard at at_most answer advances

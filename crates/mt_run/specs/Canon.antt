@@ -7,9 +7,9 @@ use Rattle.mt_rules.specs.Read.{rules_of_text}
 use Rattle.mt_rules.specs.Rules.{rules_fault_text}
 use Rattle.mt_topology.specs.Dump.{topology_of_text}
 use Rattle.mt_plain.specs.Output.{line_feed, refused_text}
-use Rattle.mt_io.specs.declared.fault.ScriptFault.{ScriptFault}
-use Rattle.mt_io.specs.declared.fault.ScriptFault.TheVariants as fault
-use Rattle.mt_io.specs.Bytes.{HasRead, IsCutShort, IsWhole, Known}
+use Rattle.mt_script.specs.declared.fault.ScriptFault.{ScriptFault}
+use Rattle.mt_script.specs.declared.fault.ScriptFault.TheVariants as fault
+use Rattle.mt_script.specs.Bytes.{HasRead, IsCutShort, IsWhole, Known}
 use Rattle.mt_run.specs.declared.canon.Canon as code
 use Rattle.mt_run.specs.declared.canon.Canon.TheVariants as canon
 

@@ -7,9 +7,9 @@ use Rattle.mt_choice.specs.declared.choice.Choice.TheVariants as choice
 use Rattle.mt_choice.specs.declared.choice.Wrong.{Wrong}
 use Rattle.mt_choice.specs.declared.choice.Wrong.TheVariants as wrong
 use Rattle.mt_choice.specs.Texts.{wrong_text}
-use Rattle.mt_io.specs.declared.fault.ScriptFault.{ScriptFault}
-use Rattle.mt_io.specs.declared.fault.ScriptFault.TheVariants as fault
-use Rattle.mt_io.specs.Bytes.{IsCutShort, Known, Writes, script_fault_text}
+use Rattle.mt_script.specs.declared.fault.ScriptFault.{ScriptFault}
+use Rattle.mt_script.specs.declared.fault.ScriptFault.TheVariants as fault
+use Rattle.mt_script.specs.Bytes.{IsCutShort, Known, Writes, script_fault_text}
 use Rattle.mt_run.specs.declared.command.Status.{Status}
 use Rattle.mt_run.specs.declared.command.Status.TheVariants as status
 use Rattle.mt_run.specs.Canon.{WritesCanon, dump_canon, rules_canon}

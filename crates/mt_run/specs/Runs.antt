@@ -9,7 +9,7 @@ use Rattle.mt_laws.specs.Headline.{Headline}
 use Rattle.mt_laws.specs.Scripts.{IsScriptRun}
 use Rattle.mt_plain.specs.Events.{Answer, Event}
 use Rattle.mt_plain.specs.Answers.{Answers, Run}
-use Rattle.mt_plain.specs.Drive.{Drives, most_turns}
+use Rattle.mt_plain.specs.Drive.{Drives, Driving, most_turns}
 use Rattle.mt_plain.specs.Next.{next}
 use Rattle.mt_plain.specs.Output as plain
 use Rattle.mt_plain.specs.Output.{IsOutput, Leaves, Told, answer_text, asks, drives, ended_text, Output, line_feed, nothing, refused_text, says, told, told_request}
@@ -17,21 +17,25 @@ use Rattle.mt_plain.specs.Plain.{Plain, opening}
 use Rattle.mt_plain.specs.Script.{Command, Request, command, read_line, request_of}
 use Rattle.mt_plain.specs.Script as script
 use Rattle.mt_names.specs.declared.fault.NameFault.{NameFault}
-use Rattle.mt_io.specs.declared.fault.ScriptFault.{ScriptFault}
-use Rattle.mt_io.specs.declared.fault.ScriptFault.TheVariants as fault
-use Rattle.mt_io.specs.Bytes.{GoesOut, HasRead, IsCutShort, IsWhole, Known}
-use Rattle.mt_site_state.specs.Ways.{SiteStands, SiteState}
+use Rattle.mt_script.specs.declared.fault.ScriptFault.{ScriptFault}
+use Rattle.mt_script.specs.declared.fault.ScriptFault.TheVariants as fault
+use Rattle.mt_script.specs.Bytes.{GoesOut, HasRead, IsCutShort, IsWhole, Known}
+use Rattle.mt_stands.specs.Ways.{CoreStands, CoreState}
 
 -- ---- a line
 
+-- a drive ends, its end becomes a text, and the core, with watchers of these scopes, stands for the state after it. (A record, so that two
+-- of these statements are compared part by part, and not turn by turn)
+pub record TellsDrive (scopes : List Scope) (p : Plain) (driving : Driving) (text : Option (List ℕ)) (core : CoreState) : Type 0 where
+  pub drove : Drives Answers most_turns (λ ended q. (text ≡ Some (ended_text ended ++ line_feed)) × CoreStands q scopes core) driving p
+
 -- what a line tells becomes a text, or none, and the core, with watchers of these scopes, stands for the state after it
-abbrev pub Tells : List Scope → Plain → Told → Option (List ℕ) → SiteState → Type 0
-Tells scopes p nothing text core = (text ≡ None) × SiteStands p scopes core
-Tells scopes p (says words) text core = (text ≡ Some (words ++ line_feed)) × SiteStands p scopes core
+abbrev pub Tells : List Scope → Plain → Told → Option (List ℕ) → CoreState → Type 0
+Tells scopes p nothing text core = (text ≡ None) × CoreStands p scopes core
+Tells scopes p (says words) text core = (text ≡ Some (words ++ line_feed)) × CoreStands p scopes core
 Tells scopes p (asks event) text core =
-    (answer : Answer) × Answers p event answer × (text ≡ Some (answer_text answer ++ line_feed)) × SiteStands (next p event answer) scopes core
-Tells scopes p (drives driving) text core =
-    Drives Answers most_turns (λ ended q. (text ≡ Some (ended_text ended ++ line_feed)) × SiteStands q scopes core) driving p
+    (answer : Answer) × Answers p event answer × (text ≡ Some (answer_text answer ++ line_feed)) × CoreStands (next p event answer) scopes core
+Tells scopes p (drives driving) text core = TellsDrive scopes p driving text core
 
 -- the bytes of a text, or none
 abbrev pub bytes_of : Option (List ℕ) → List ℕ
@@ -49,22 +53,22 @@ abbrev pub AsksDocument : List ℕ → Type 0
 AsksDocument line = (c : Command) × (is_document c ≡ true) × (read_line line ≡ command c)
 
 -- what is told becomes a text behind what waited
-abbrev pub IsTold : List Scope → Plain → Told → (waiting waiting' : List ℕ) → SiteState → Type 0
+abbrev pub IsTold : List Scope → Plain → Told → (waiting waiting' : List ℕ) → CoreState → Type 0
 IsTold scopes p t waiting waiting' core = (text : List ℕ) × Tells scopes p t (Some text) core × (waiting' ≡ waiting ++ text)
 
 -- a request is answered, where the core stood for a state before it
-abbrev pub IsAnswered : List Scope → SiteState → Request → (waiting waiting' : List ℕ) → SiteState → Type 0
-IsAnswered scopes old request waiting waiting' new = (p : Plain) → SiteStands p scopes old → IsTold scopes p (told_request p (Ok request)) waiting waiting' new
+abbrev pub IsAnswered : List Scope → CoreState → Request → (waiting waiting' : List ℕ) → CoreState → Type 0
+IsAnswered scopes old request waiting waiting' new = (p : Plain) → CoreStands p scopes old → IsTold scopes p (told_request p (Ok request)) waiting waiting' new
 
 -- a command is answered; or a name in it is in fault, and nothing is done
-abbrev pub IsNamed : List Scope → SiteState → Command → (waiting waiting' : List ℕ) → Result Unit NameFault → SiteState → Type 0
+abbrev pub IsNamed : List Scope → CoreState → Command → (waiting waiting' : List ℕ) → Result Unit NameFault → CoreState → Type 0
 IsNamed scopes old c waiting waiting' (Ok done) new = (request : Request) × (request_of c ≡ Ok request) × IsAnswered scopes old request waiting waiting' new
 IsNamed scopes old c waiting waiting' (Err fault) new = (request_of c ≡ Err fault) × (new ≡ old) × (waiting' ≡ waiting)
 
 -- a command for a row is answered, with whatever watchers: they aren't asked
-abbrev pub IsRowTold : SiteState → Command → (waiting waiting' : List ℕ) → SiteState → Type 0
+abbrev pub IsRowTold : CoreState → Command → (waiting waiting' : List ℕ) → CoreState → Type 0
 IsRowTold old c waiting waiting' new =
-    (scopes : List Scope) (p : Plain) → SiteStands p scopes old → IsTold scopes p (told_request p (request_of c)) waiting waiting' new
+    (scopes : List Scope) (p : Plain) → CoreStands p scopes old → IsTold scopes p (told_request p (request_of c)) waiting waiting' new
 
 -- the text of what was asked through a name: the answer, or why the name leads nowhere
 abbrev pub through_text : {A : Type 0} → (A → Answer) → Result A TopologyFault → List ℕ
@@ -73,7 +77,7 @@ through_text answer_of (Err fault) = refused_text (topology_fault_text fault) ++
 
 -- a line is answered, and its text is written behind what waited. Where a document finds no memory, all that waited is
 -- written, and nothing more
-abbrev pub RunsLine : List Scope → Plain → (line : List ℕ) → SiteState → Known → Known → (waiting waiting' : List ℕ) → Result Unit ScriptFault → Type 0
+abbrev pub RunsLine : List Scope → Plain → (line : List ℕ) → CoreState → Known → Known → (waiting waiting' : List ℕ) → Result Unit ScriptFault → Type 0
 RunsLine scopes p line core held held' waiting waiting' (Ok done) =
     (text : Option (List ℕ)) × Tells scopes p (told read_line p line) text core × GoesOut held held' (waiting ++ bytes_of text) waiting'
 RunsLine scopes p line core held held' waiting waiting' (Err fault.Memory) = AsksDocument line × Appends held held' waiting

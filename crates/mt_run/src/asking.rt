@@ -16,14 +16,13 @@ ghost use Rattle.mt_run.specs.Runs.{IsAnswered, IsNamed};
 
 use crate::cached::CachedSite;
 use mt_event::{Event, Reason, ShownOf};
-use mt_io::{LONGEST_LINE, ROOM, Waiting};
 use mt_names::{
     KeyRange, KeyspaceName, NameFault, RuleKey, RuleTarget, ShardList, TableName, TypeSet,
     WorkflowName, table_list,
 };
 use mt_script::{
-    AdvanceWords, CreateWords, QualifiedName, RowAsked, WorkflowAsked, put_advanced, put_answer,
-    put_created, put_driven, put_reason, put_shown, put_written,
+    AdvanceWords, CreateWords, LONGEST_LINE, QualifiedName, ROOM, RowAsked, Waiting, WorkflowAsked,
+    put_advanced, put_answer, put_created, put_driven, put_reason, put_shown, put_written,
 };
 use mt_site::{Command, drive};
 use mt_stream::Advanced;

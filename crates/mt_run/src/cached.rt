@@ -2,7 +2,7 @@
 ghost use Rattle.std.specs.Prelude.{◌≡◌, IfSome, IfNone, is_ok, is_some};
 ghost use Rattle.mt_names.specs.Names.{read_table};
 ghost use Rattle.mt_plain.specs.Plain.{opening};
-ghost use Rattle.mt_site_state.specs.Ways.{SiteStands};
+ghost use Rattle.mt_stands.specs.Ways.{CoreStands};
 ghost use Rattle.mt_run.specs.Names.{LeadThere, plain_key};
 ghost use Rattle.mt_run.specs.Rows.{ReadThrough, WrittenThrough};
 
@@ -10,8 +10,8 @@ use crate::names::Names;
 use mt_event::Reason;
 use mt_model::{Op, TopologyFault};
 use mt_names::{RuleKey, TableName, TabletType, Value};
+use mt_refinement::a_base_tells_what_its_state_serves;
 use mt_site::Site;
-use mt_site_events::a_core_tells_what_its_state_serves;
 use mt_watch::Asks;
 use std::alloc::Global;
 use std::str;
@@ -26,14 +26,14 @@ pub(crate) struct CachedSite<W: Asks> {
     pub site: Site<W>,
     /// The names.
     pub names: Names,
-    ghost lead: { LeadThere site.core.core.topology names.kept.entries },
+    ghost lead: { LeadThere site.core.base.topology names.kept.entries },
 }
 
 impl<W: Asks> CachedSite<W> {
     /// A site as `Site::open` makes it, and no names. It takes no memory.
     pub fn open(alloc: Global, watchers: W) -> Self
         ensures watchers { result.site.watchers ≡ watchers }
-        ensures stands { SiteStands (opening (W.scopes result.site.watchers)) (W.scopes result.site.watchers) result.site.core }
+        ensures stands { CoreStands (opening (W.scopes result.site.watchers)) (W.scopes result.site.watchers) result.site.core }
     {
         CachedSite {
             site: Site::open(alloc, watchers),
@@ -68,7 +68,7 @@ impl<W: Asks> CachedSite<W> {
         ensures none { IfNone result (self.new.site ≡ self.old.site) }
         ensures told { IfSome result (λ told. WrittenThrough self.old.site.core (plain_key name.now) op told self.new.site.core) }
     {
-        a_core_tells_what_its_state_serves();
+        a_base_tells_what_its_state_serves();
         match self.names.find(name) {
             Some(place) => Some(Ok(self.site.write_row(place, op))),
             None => self.write_found(name, op),
@@ -104,7 +104,7 @@ impl<W: Asks> CachedSite<W> {
         ensures name { is_some result ≡ is_ok (read_table name.now) }
         ensures told { IfSome result (λ told. ReadThrough self.old.site.core (plain_key name.now) key TabletType.Primary told) }
     {
-        a_core_tells_what_its_state_serves();
+        a_base_tells_what_its_state_serves();
         match self.names.find(name) {
             Some(place) => Some(Ok(self.site.core().read_row(place, key, TabletType::Primary))),
             None => self.read_found(name, key),

@@ -5,9 +5,9 @@ ghost use Rattle.mt_rules.specs.Rules.{rules_fault_text};
 ghost use Rattle.mt_plain.specs.Output.{refused_text};
 ghost use Rattle.mt_run.specs.Canon.{IsCanon, WritesCanon, WritesLine, dump_canon, rules_canon};
 
-use mt_io::{ScriptFault, read_script, write_line};
 use mt_model::TopologyFault;
 use mt_rules::{RoutingRules, RulesFault};
+use mt_script::{ScriptFault, read_script, write_line};
 use mt_topology::Topology;
 use std::alloc::Global;
 use std::io::{Read, Write};

@@ -4,7 +4,7 @@ ghost use Rattle.mt_run.specs.Performs.{Performs, Tells, ending_of_document, end
 
 use crate::{canon_dump, canon_rules, run_watched};
 use mt_choice::{Choice, Wrong};
-use mt_io::{ScriptFault, write_all, write_line};
+use mt_script::{ScriptFault, write_all, write_line};
 use std::alloc::Global;
 use std::io::{Read, Write};
 

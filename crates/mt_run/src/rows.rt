@@ -9,10 +9,12 @@ ghost use Rattle.mt_run.specs.Runs.{IsRowTold, through_text};
 
 use crate::cached::CachedSite;
 use mt_event::Reason;
-use mt_io::{LONGEST_LINE, ROOM, Waiting};
 use mt_model::{Op, TopologyFault};
 use mt_names::{RuleKey, TabletType, Value};
-use mt_script::{OpText, RowAsked, put_fault, put_look_up, put_reason, put_row, put_written};
+use mt_script::{
+    LONGEST_LINE, OpText, ROOM, RowAsked, Waiting, put_fault, put_look_up, put_reason, put_row,
+    put_written,
+};
 use mt_watch::Asks;
 
 /// Tells of a write through a name.

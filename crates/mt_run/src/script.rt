@@ -4,16 +4,16 @@ ghost use Rattle.mt_model.specs.declared.entries.Scope.{Scope};
 ghost use Rattle.mt_plain.specs.Output.{says, told};
 ghost use Rattle.mt_plain.specs.Plain.{Plain};
 ghost use Rattle.mt_plain.specs.Script as language;
-ghost use Rattle.mt_site_state.specs.Ways.{SiteStands, SiteState};
+ghost use Rattle.mt_stands.specs.Ways.{CoreStands, CoreState};
 ghost use Rattle.mt_run.specs.Runs.{AsksDocument, Runs, RunsLine, RunsLines};
 
 use crate::asking::{add_keyspace, add_table, create, edit_rule, row_at, workflow};
 use crate::cached::CachedSite;
 use crate::rows::row;
-use mt_io::{
-    LONGEST_LINE, ROOM, ScriptFault, Waiting, flush, make_room, put_document, read_script,
+use mt_script::{
+    LONGEST_LINE, Line, ROOM, ScriptFault, Waiting, first_line, flush, make_room, put_document,
+    put_fault, put_refusal, read, read_script,
 };
-use mt_script::{Line, first_line, put_fault, put_refusal, read};
 use mt_watch::Asks;
 use std::alloc::Global;
 use std::io::{Read, Write};
@@ -25,7 +25,7 @@ fn put_made<W: Write>(
     waiting: &mut Waiting,
     writer: &mut W,
 ) -> Result<(), ScriptFault>
-    ensures { (scopes : List Scope) (p : Plain) (line : List ℕ) (core : SiteState) → SiteStands p scopes core → AsksDocument line
+    ensures { (scopes : List Scope) (p : Plain) (line : List ℕ) (core : CoreState) → CoreStands p scopes core → AsksDocument line
         → IfSome document (λ text. told language.read_line p line ≡ says (string_bytes text))
         → RunsLine scopes p line core (W.contents writer.old) (W.contents writer.new) waiting.old.items waiting.new.items result }
 {
@@ -47,7 +47,7 @@ fn run_line<W: Write, A: Asks>(
 ) -> Result<(), ScriptFault>
     requires room { length waiting.old.items + LONGEST_LINE ≤ ROOM }
     ensures watchers { cached.new.site.watchers ≡ cached.old.site.watchers }
-    ensures runs { (p : Plain) → SiteStands p (A.scopes cached.old.site.watchers) cached.old.site.core
+    ensures runs { (p : Plain) → CoreStands p (A.scopes cached.old.site.watchers) cached.old.site.core
         → RunsLine (A.scopes cached.old.site.watchers) p line.now cached.new.site.core (W.contents writer.old) (W.contents writer.new) waiting.old.items waiting.new.items result }
 {
     let named = match read(line) {
@@ -81,7 +81,7 @@ fn run_lines<W: Write, A: Asks>(
     script: &[u8],
     writer: &mut W,
 ) -> Result<(), ScriptFault>
-    ensures { (p : Plain) → SiteStands p (A.scopes cached.old.site.watchers) cached.old.site.core → RunsLines p script.now (W.contents writer.old) (W.contents writer.new) result }
+    ensures { (p : Plain) → CoreStands p (A.scopes cached.old.site.watchers) cached.old.site.core → RunsLines p script.now (W.contents writer.old) (W.contents writer.new) result }
 {
     let mut waiting = Waiting::new();
     let mut rest = script;

@@ -4,8 +4,8 @@ ghost use Rattle.mt_plain.specs.Output.{watchers_of};
 ghost use Rattle.mt_run.specs.Runs.{Runs};
 
 use crate::run_script;
-use mt_io::ScriptFault;
 use mt_names::KeyspaceName;
+use mt_script::ScriptFault;
 use mt_watch::{Scope, Watchers, telling_watcher};
 use std::alloc::Global;
 use std::io::{Read, Write};

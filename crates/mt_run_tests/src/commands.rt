@@ -2,9 +2,9 @@
 
 use crate::faults::{NoRoom, writer_with};
 use mt_choice::{Choice, USAGE, Wrong, keyspaces};
-use mt_io::ScriptFault;
 use mt_names::NameFault;
 use mt_run::{Status, perform, run_watched};
+use mt_script::ScriptFault;
 use std::alloc::Global;
 use std::test::Fail;
 

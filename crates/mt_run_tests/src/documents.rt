@@ -2,8 +2,8 @@
 
 use crate::faults::{NoRoom, reader_of, writer_with};
 use crate::scripts::{Case, answers, prints};
-use mt_io::ScriptFault;
 use mt_run::{canon_dump, canon_rules};
+use mt_script::ScriptFault;
 use std::alloc::Global;
 use std::io::Read;
 use std::test::Fail;

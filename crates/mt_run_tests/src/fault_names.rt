@@ -1,6 +1,6 @@
 //! The names of faults.
 
-use mt_io::ScriptFault;
+use mt_script::ScriptFault;
 use std::alloc::Global;
 use std::io::Write;
 use std::test::Fail;

@@ -3,9 +3,9 @@
 use crate::scripts::{Case, ends};
 use crate::whole_switches::REVERSED;
 use mt_choice::keyspaces;
-use mt_io::ScriptFault;
 use mt_names::KeyspaceName;
 use mt_run::{run_script, run_watched};
+use mt_script::ScriptFault;
 use mt_watch::Watchers;
 use std::alloc::Global;
 use std::io;

@@ -1,8 +1,8 @@
 //! Scripts and what they print.
 
 use mt_choice::keyspaces;
-use mt_io::ScriptFault;
 use mt_run::{run_script, run_watched};
+use mt_script::ScriptFault;
 use mt_watch::Watchers;
 use std::alloc::Global;
 use std::io::Read;

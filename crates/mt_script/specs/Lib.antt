@@ -1,2 +1,3 @@
+pub mod Bytes
 pub mod Lines
 pub mod Texts

@@ -11,10 +11,10 @@ ghost use Rattle.mt_workflow.specs.Workflows.{way_from};
 ghost use Rattle.mt_event.specs.Events.{lane_from, lanes_from, lent_shown, shown_stream_from};
 ghost use Rattle.mt_script.specs.Texts.{back_behind, forward_behind, streams_text, traffic_text};
 
+use crate::LONGEST_LINE;
 use arrayvec::ArrayVec;
 use itoa::Buffer;
 use mt_event::{ShownLane, ShownOf, ShownStream};
-use mt_io::LONGEST_LINE;
 use mt_names::{KeyRange, TableName};
 use mt_stream::StreamState;
 use mt_workflow::Way;

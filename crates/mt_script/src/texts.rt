@@ -13,11 +13,11 @@ ghost use Rattle.mt_model.specs.Faults.{topology_fault_text};
 ghost use Rattle.mt_names.specs.Faults.{fault_text};
 ghost use Rattle.mt_script.specs.Lines.{line_refusal_text};
 
+use crate::LONGEST_LINE;
 use crate::lines::LineRefusal;
 use crate::shown::{number, shown_line, spaced};
 use arrayvec::ArrayVec;
 use mt_event::{Driven, Reason, Refusal, Reply, ShownOf};
-use mt_io::LONGEST_LINE;
 use mt_model::TopologyFault;
 use mt_names::{NameFault, Value};
 use mt_stream::Advanced;

@@ -7,19 +7,19 @@ use Rattle.mt_names.specs.Names.{same_text}
 use Rattle.mt_model.specs.Topology.{TopologyState}
 use Rattle.mt_plain.specs.Events.{StreamName, forward, back, Answer}
 use Rattle.mt_plain.specs.Slots.{read_side, written_side}
-use Rattle.mt_primaries.proofs.PlaceLemmas.{with_places-two}
-use Rattle.mt_primaries.proofs.PrimaryLemmas.{found_shards, has-with_primary, of-with_shards_elsewhere}
-use Rattle.mt_primaries.specs.Places.{IsAt, with_one, with_places, with_state, with_two}
-use Rattle.mt_primaries.specs.Primaries.{Primaries, ShardsState, has_primaries, primary_in, primary_of, shards_of, with_primary}
+use Rattle.mt_primary.proofs.PlaceLemmas.{with_places-two}
+use Rattle.mt_primary.proofs.PrimariesLemmas.{found_shards, has-with_primary, of-with_shards_elsewhere}
+use Rattle.mt_primary.specs.Places.{IsAt, with_one, with_places, with_state, with_two}
+use Rattle.mt_primary.specs.Primaries.{Primaries, ShardsState, has_primaries, primary_in, primary_of, shards_of, with_primary}
 use Rattle.mt_primary.specs.Primary.{PrimaryState, end_of, has_table}
 use Rattle.mt_stream.specs.declared.fault.StreamFault.{StreamFault}
 use Rattle.mt_stream.specs.declared.stream.Advanced.{Advanced}
 use Rattle.mt_stream.specs.Streams.{StreamValue}
 use Rattle.mt_workflow.specs.Advance.{AdvancesSlot}
 use Rattle.mt_workflow.specs.Workflows.{WorkflowState, live_of, slot_of, with_slot}
-use Rattle.mt_site_state.specs.Core.{CoreState, Workflows, workflow_at}
-use Rattle.mt_site_state.specs.Workflows.{AdvancesStream, OrShardRefused, shard_read, shard_written}
-use Rattle.mt_site_workflows.proofs.PrimaryLemmas.{source-is, target-is, there-or-not}
+use Rattle.mt_stands.specs.Base.{BaseState, Workflows, workflow_at}
+use Rattle.mt_stands.specs.Workflows.{AdvancesStream, OrShardRefused, shard_read, shard_written}
+use Rattle.mt_moves.proofs.PrimaryLemmas.{source-is, target-is, there-or-not}
 use Rattle.mt_site.proofs.CoreLemmas.{lane_below}
 use Rattle.mt_site.proofs.PlacedLemmas.{shards_there}
 use Rattle.mt_site.specs.Advance.{AdvancesBeside, AdvancesBetween, AdvancesLane, AdvancesOne, IsBetween, StandsBetween, answer_by_slot, read_beside, source_beside, target_beside, written_beside}
@@ -41,27 +41,27 @@ pub advanced : (topology : TopologyState) (primaries new : Primaries) (workflows
     → AdvancesStream o (record { topology = topology; primaries = primaries; workflows = workflows }) w stream shard at at_most answer (record { topology = topology; primaries = new; workflows = later })
 advanced topology primaries new workflows later name w after stream shard at at_most answer None named found is did =
     let kept : later ≡ workflows = is ∙ ap (set_value (same_text name) workflows) did.1 ∙ set_value_same (same_text name) workflows w found in
-    let by_primaries : Primaries → CoreState = λ ps. record { topology = topology; primaries = ps; workflows = later } in
-    let by_workflows : Workflows → CoreState = λ ws. record { topology = topology; primaries = primaries; workflows = ws } in
+    let by_primaries : Primaries → BaseState = λ ps. record { topology = topology; primaries = ps; workflows = later } in
+    let by_workflows : Workflows → BaseState = λ ws. record { topology = topology; primaries = primaries; workflows = ws } in
     (did.0, ap by_primaries did.2 ∙ ap by_workflows kept)
 advanced topology primaries new workflows later name w after stream shard at at_most answer (Some s) named found is (result, moved, sink, advances, told, slot, put) =
     let there : WorkflowState = with_slot w shard stream (Some moved) in
     let here : later ≡ set_value (same_text w.name) workflows there = is ∙ ap (set_value (same_text name) workflows) slot ∙ ap (λ n. set_value (same_text n) workflows there) (sym named) in
-    let by_primaries : Primaries → CoreState = λ ps. record { topology = topology; primaries = ps; workflows = later } in
-    let by_workflows : Workflows → CoreState = λ ws. record { topology = topology; primaries = with_primary primaries (written_side (live_of w) stream) (shard_written stream shard) sink; workflows = ws } in
+    let by_primaries : Primaries → BaseState = λ ps. record { topology = topology; primaries = ps; workflows = later } in
+    let by_workflows : Workflows → BaseState = λ ws. record { topology = topology; primaries = with_primary primaries (written_side (live_of w) stream) (shard_written stream shard) sink; workflows = ws } in
     (result, moved, sink, advances, told, ap by_primaries put ∙ ap by_workflows here)
 
 -- the same, if the target has the shard
 pub advanced_lane : (topology : TopologyState) (primaries new : Primaries) (workflows later : Workflows) (name : List ℕ) (w after : WorkflowState) (stream : StreamName) (shard at at_most : ℕ) (answer : Answer) (has_shard : Bool)
     → w.name ≡ name → workflow_at workflows name ≡ Some w → later ≡ set_value (same_text name) workflows after → AdvancesLane has_shard primaries w stream shard at at_most answer after new
-    → (let old : CoreState = record { topology = topology; primaries = primaries; workflows = workflows } in let next : CoreState = record { topology = topology; primaries = new; workflows = later } in
+    → (let old : BaseState = record { topology = topology; primaries = primaries; workflows = workflows } in let next : BaseState = record { topology = topology; primaries = new; workflows = later } in
     OrShardRefused has_shard old answer next (AdvancesStream (slot_of w shard stream) old w stream shard at at_most answer next))
 advanced_lane topology primaries new workflows later name w after stream shard at at_most answer true named found is did =
     advanced topology primaries new workflows later name w after stream shard at at_most answer (slot_of w shard stream) named found is did
 advanced_lane topology primaries new workflows later name w after stream shard at at_most answer false named found is did =
     let kept : later ≡ workflows = is ∙ ap (set_value (same_text name) workflows) did.1 ∙ set_value_same (same_text name) workflows w found in
-    let by_primaries : Primaries → CoreState = λ ps. record { topology = topology; primaries = ps; workflows = later } in
-    let by_workflows : Workflows → CoreState = λ ws. record { topology = topology; primaries = primaries; workflows = ws } in
+    let by_primaries : Primaries → BaseState = λ ps. record { topology = topology; primaries = ps; workflows = later } in
+    let by_workflows : Workflows → BaseState = λ ws. record { topology = topology; primaries = primaries; workflows = ws } in
     (did.0, ap by_primaries did.2 ∙ ap by_workflows kept)
 
 -- ---- the shards of both sides, lent at their places

@@ -4,12 +4,12 @@ use Rattle.std.specs.Prelude.{option_and_then, slice_get}
 use Rattle.mt_plain.specs.Events.{StreamName, forward, back, running, frozen}
 use Rattle.mt_plain.specs.Plain.{among}
 use Rattle.mt_plain.specs.Slots.{read_side}
-use Rattle.mt_primaries.specs.Primaries.{count_of, primary_of}
+use Rattle.mt_primary.specs.Primaries.{count_of, primary_of}
 use Rattle.mt_primary.specs.Primary.{end_of, has_table}
 use Rattle.mt_stream.specs.Streams.{StreamValue}
 use Rattle.mt_workflow.specs.Workflows.{LaneState, WorkflowState, lane_slot, live_of, slot_of}
-use Rattle.mt_site_state.specs.Core.{CoreState, workflow_at}
-use Rattle.mt_site_state.specs.Workflows.{shard_read}
+use Rattle.mt_stands.specs.Base.{BaseState, workflow_at}
+use Rattle.mt_stands.specs.Workflows.{shard_read}
 use Rattle.mt_site.specs.Advance.{CanAdvance, IsBetween}
 
 -- a stream stands in one of the lanes
@@ -22,7 +22,7 @@ lane_below w shard stream s there = by w.lanes shard there
     by (lane ∷ lanes) (suc n) there = let below = by lanes n there in omega (arith, below)
 
 -- a stream of a workflow stands between the primaries of its sides
-pub can_advance : (core : CoreState) (name : List ℕ) (stream : StreamName) (shard : ℕ)
+pub can_advance : (core : BaseState) (name : List ℕ) (stream : StreamName) (shard : ℕ)
     → ((name : List ℕ) (w : WorkflowState) → workflow_at core.workflows name ≡ Some w → w.name ≡ name)
     → ((name : List ℕ) (w : WorkflowState) → workflow_at core.workflows name ≡ Some w → count_of core.primaries w.source ≡ 1)
     → ((name : List ℕ) (w : WorkflowState) → workflow_at core.workflows name ≡ Some w → length w.lanes ≡ count_of core.primaries w.target)

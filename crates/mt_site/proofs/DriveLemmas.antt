@@ -11,7 +11,7 @@ use Rattle.mt_plain.specs.Drive.{Driven, Drives, Driving, EndRule, GoesOn, Heard
 use Rattle.mt_plain.specs.Events.{Answer, Event, Refusal}
 use Rattle.mt_plain.specs.Next.{next}
 use Rattle.mt_plain.specs.Plain.{Plain}
-use Rattle.mt_site_state.specs.Ways.{SiteStands, SiteState}
+use Rattle.mt_stands.specs.Ways.{CoreStands, CoreState}
 use Rattle.mt_event.specs.declared.driven.Driven as code_driven
 use Rattle.mt_event.specs.Drives.{ended_from}
 use Rattle.mt_site.specs.Drives.{DriveKeepsTheHeadline, EndsFrom}
@@ -74,15 +74,15 @@ run_joined (e ∷ events) (a ∷ answers) p more told run rest =
     ((run.0, r.0), r.1)
 
 -- a drive keeps the headline
-pub drive_keeps : (scopes : List Scope) (old new : SiteState) (workflow : List ℕ) (types : TypeSet) (back : Bool) (result : Result code_driven.Driven code.Refusal)
+pub drive_keeps : (scopes : List Scope) (old new : CoreState) (workflow : List ℕ) (types : TypeSet) (back : Bool) (result : Result code_driven.Driven code.Refusal)
     (turns : ℕ)
-    → ((p : Plain) → SiteStands p scopes old → EndsFrom scopes turns (begins workflow types back) p result new)
+    → ((p : Plain) → CoreStands p scopes old → EndsFrom scopes turns (begins workflow types back) p result new)
     → ((p : Plain) (earlier more : List Event) (told answered : List Answer) → IsReached p → Run p earlier told → Run (after p earlier told) more answered
     → Headline p (earlier ++ more) (told ++ answered))
     → DriveKeepsTheHeadline scopes old workflow types back result new
 drive_keeps scopes old new workflow types back result turns drives law = λ p earlier told had.
     let start = begins workflow types back in
-    let drove = has_driven (λ q. SiteStands q scopes new) (ended_from result) turns start (after p earlier told) (drives (after p earlier told) had.stands) in
+    let drove = has_driven (λ q. CoreStands q scopes new) (ended_from result) turns start (after p earlier told) (drives (after p earlier told) had.stands) in
     let joined = run_joined earlier told p drove.events drove.answers had.run drove.run in (
       drove.events,
       drove.answers,
@@ -90,7 +90,7 @@ drive_keeps scopes old new workflow types back result turns drives law = λ p ea
       record {
         reached = had.reached;
         run = joined.0;
-        stands = subst (λ q. SiteStands q scopes new) (sym joined.1) drove.left;
+        stands = subst (λ q. CoreStands q scopes new) (sym joined.1) drove.left;
       },
       law p earlier drove.events told drove.answers had.reached had.run drove.run,
     )

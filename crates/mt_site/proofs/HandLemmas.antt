@@ -18,9 +18,9 @@ use Rattle.mt_topology.specs.Edits.{add_keyspace_refusal, add_table_refusal}
 use Rattle.mt_event.specs.Reasons.{reason_from}
 use Rattle.mt_keyspace.specs.Edits.{Edits}
 use Rattle.mt_plain.specs.Events.{exists, full, refused}
-use Rattle.mt_site_state.specs.ByHand.{refusal_by_topology}
-use Rattle.mt_primaries.specs.Primaries.{Primaries, has_primaries}
-use Rattle.mt_site_state.specs.Core.{CoreState, Does}
+use Rattle.mt_stands.specs.ByHand.{refusal_by_topology}
+use Rattle.mt_primary.specs.Primaries.{Primaries, has_primaries}
+use Rattle.mt_stands.specs.Base.{BaseState, Does}
 use Rattle.mt_site.specs.ByHand as code
 use Rattle.mt_site.specs.ByHand.{AreTables, without_table}
 
@@ -41,7 +41,7 @@ keyspace-free keyspaces name is few = rw is (by (length keyspaces == most_keyspa
 
 -- a topology that is refused a keyspace is as it was, and the core tells the refusal
 pub keyspace-refused : (old new : TopologyState) (refusal : Option TopologyFault) (made : TopologyState) (fault : TopologyFault) → Edits old refusal true made (Err fault) new
-    → (core later goal : CoreState) → later ≡ core → Does core (option_map refusal_by_topology refusal) true goal (refused (reason_from (code.refusal_by_topology fault))) later
+    → (core later goal : BaseState) → later ≡ core → Does core (option_map refusal_by_topology refusal) true goal (refused (reason_from (code.refusal_by_topology fault))) later
 keyspace-refused old new refusal made topology.Memory edits core later goal same = (ap (option_map refusal_by_topology) edits.0, refl, same)
 keyspace-refused old new refusal made topology.NoKeyspace edits core later goal same = (ap (option_map refusal_by_topology) edits.0, same)
 keyspace-refused old new refusal made topology.NoTable edits core later goal same = (ap (option_map refusal_by_topology) edits.0, same)

@@ -13,8 +13,8 @@ use Rattle.mt_plain.specs.Events.{Way}
 use Rattle.mt_plain.specs.Plain.{Live, Plain, stands_done, write_journal}
 use Rattle.mt_plain.specs.Refuse.{owed, owed_by}
 use Rattle.mt_workflow.specs.Workflows.{WorkflowState, live_of}
-use Rattle.mt_site_state.specs.Core.{Workflows, workflow_at}
-use Rattle.mt_site_state.specs.Stands.{AreWorkflows, StandsFor, StandsForAny}
+use Rattle.mt_stands.specs.Base.{Workflows, workflow_at}
+use Rattle.mt_stands.specs.Stands.{AreWorkflows, StandsFor, StandsForAny}
 use Rattle.mt_site.specs.Owed.{owed_to}
 
 -- ---- names that stand once each

@@ -9,17 +9,17 @@ use Rattle.mt_model.specs.Topology.{TopologyState}
 use Rattle.mt_names.specs.declared.types.TabletType.{TabletType}
 use Rattle.mt_names.specs.Shards.{shard_of}
 use Rattle.mt_plain.specs.Events.{Answer, done, refused}
-use Rattle.mt_primaries.proofs.PrimaryLemmas.{cuts-with_primary, found_shards, with_primary-here, with_primary-twice}
-use Rattle.mt_primaries.specs.Places.{IsAt}
-use Rattle.mt_primaries.specs.Primaries.{Primaries, ShardsState, count_of, place_of_key, primary_in, primary_of, shards_at, shards_of, with_primary}
+use Rattle.mt_primary.proofs.PrimariesLemmas.{cuts-with_primary, found_shards, with_primary-here, with_primary-twice}
+use Rattle.mt_primary.specs.Places.{IsAt}
+use Rattle.mt_primary.specs.Primaries.{Primaries, ShardsState, count_of, place_of_key, primary_in, primary_of, shards_at, shards_of, with_primary}
 use Rattle.mt_primary.specs.Primary.{PrimaryState}
 use Rattle.mt_primary.specs.Reads.{read_row}
 use Rattle.mt_primary.specs.Writes.{Writes}
-use Rattle.mt_site_rows.specs.Answers.{answer_by, refusal_by}
-use Rattle.mt_site_state.specs.ByHand.{WritesAt, WritesRow, answer_by_read, read_at}
-use Rattle.mt_site_state.specs.Core.{CoreState, Workflows}
-use Rattle.mt_site_state.specs.Purges.{PurgesOne, has_whole_segments, with_purge_of, without_unneeded}
-use Rattle.mt_site_workflows.proofs.PrimaryLemmas.{there-or-not}
+use Rattle.mt_stands.specs.Answers.{answer_by, refusal_by}
+use Rattle.mt_stands.specs.ByHand.{WritesAt, WritesRow, answer_by_read, read_at}
+use Rattle.mt_stands.specs.Base.{BaseState, Workflows}
+use Rattle.mt_stands.specs.Purges.{PurgesOne, has_whole_segments, with_purge_of, without_unneeded}
+use Rattle.mt_moves.proofs.PrimaryLemmas.{there-or-not}
 use Rattle.mt_site.specs.ByHand.{refusal_by_primary}
 
 -- a refusal of a primary, as the core tells it
@@ -43,7 +43,7 @@ pub read_there : (ps : Primaries) (k table : List ℕ) (key : ℕ) (type : Table
 read_there ps k table key type place at r is = ap answer_by_read is ∙ sym (ap (λ o. read_at o table key type) (shards_there ps k place at))
 
 -- a core, of its parts
-abbrev pub core_of : TopologyState → Primaries → Workflows → CoreState
+abbrev pub core_of : TopologyState → Primaries → Workflows → BaseState
 core_of t ps ws = record { topology = t; primaries = ps; workflows = ws }
 
 module _ (t : TopologyState) (ws : Workflows) (ps : Primaries) (k table : List ℕ) (op : Op) (n : ℕ) (before after : PrimaryState) (key : n ≡ place_of_key (shards_of ps k) (op_key op)) where
@@ -61,7 +61,7 @@ module _ (t : TopologyState) (ws : Workflows) (ps : Primaries) (k table : List �
       subst (λ m. PurgesOne k m done made (core_of t (with_primary ps k n last) ws)) (key ∙ ap (λ cuts. shard_of cuts (op_key op)) (sym (cuts-with_primary ps k n after k)))
       (ap (λ x. core_of t (with_primary ps k n x) ws) is ∙ by (has_whole_segments after) ∙ ap (λ b. cond b (with_purge_of k n made) made) (ap has_whole_segments (sym now)))
     where
-      made : CoreState
+      made : BaseState
       made = core_of t (with_primary ps k n after) ws
 
       now : primary_of (with_primary ps k n after) k n ≡ after
@@ -74,6 +74,6 @@ module _ (t : TopologyState) (ws : Workflows) (ps : Primaries) (k table : List �
       by false = refl
 
 -- a write leaves the topology
-pub row_leaves_topology : (old new : CoreState) (keyspace table : List ℕ) (op : Op) (answer : Answer) (o : Option ShardsState) → WritesAt o old keyspace table op answer new → new.topology ≡ old.topology
-row_leaves_topology old new keyspace table op answer None is = let topology_of : CoreState → TopologyState = λ core. core.topology in ap topology_of is.1
-row_leaves_topology old new keyspace table op answer (Some shards) (result, after, writes, told, made) = let topology_of : CoreState → TopologyState = λ core. core.topology in ap topology_of made
+pub row_leaves_topology : (old new : BaseState) (keyspace table : List ℕ) (op : Op) (answer : Answer) (o : Option ShardsState) → WritesAt o old keyspace table op answer new → new.topology ≡ old.topology
+row_leaves_topology old new keyspace table op answer None is = let topology_of : BaseState → TopologyState = λ core. core.topology in ap topology_of is.1
+row_leaves_topology old new keyspace table op answer (Some shards) (result, after, writes, told, made) = let topology_of : BaseState → TopologyState = λ core. core.topology in ap topology_of made

@@ -9,12 +9,12 @@ use Rattle.mt_names.specs.Names.{same_text}
 use Rattle.mt_names.proofs.SameLemmas.{same_text_decides}
 use Rattle.mt_model.specs.declared.faults.PrimaryFault.{PrimaryFault}
 use Rattle.mt_plain.specs.Plain.{among}
-use Rattle.mt_primaries.proofs.PrimaryLemmas.{primary_past, there_from_count, with_shards-same}
-use Rattle.mt_primaries.specs.Places.{IsAt}
-use Rattle.mt_primaries.specs.Primaries.{Primaries, ShardsState, count_of, has_primaries, primary_of, shards_of, with_shards}
+use Rattle.mt_primary.proofs.PrimariesLemmas.{primary_past, there_from_count, with_shards-same}
+use Rattle.mt_primary.specs.Places.{IsAt}
+use Rattle.mt_primary.specs.Primaries.{Primaries, ShardsState, count_of, has_primaries, primary_of, shards_of, with_shards}
 use Rattle.mt_primary.specs.Primary.{IsPrimary, PrimaryState, empty_primary, has_table}
 use Rattle.mt_primary.specs.Writes.{with_new_table, without_table}
-use Rattle.mt_site_rows.proofs.BridgeLemmas.{made_and_dropped_in_order}
+use Rattle.mt_stands.proofs.BridgeLemmas.{made_and_dropped_in_order}
 use Rattle.mt_site.specs.ByHand.{CreatesTable}
 
 -- ---- what is true of every primary

@@ -12,7 +12,7 @@ use Rattle.mt_plain.specs.Answers.{Answers, Run, after}
 use Rattle.mt_plain.specs.Events as plain
 use Rattle.mt_plain.specs.Next.{next}
 use Rattle.mt_plain.specs.Plain.{Plain}
-use Rattle.mt_site_state.specs.Ways.{SiteStands, SiteState, SiteSteps}
+use Rattle.mt_stands.specs.Ways.{CoreStands, CoreState, CoreSteps}
 use Rattle.mt_site.specs.Headline.{KeepsTheHeadline}
 use Rattle.mt_site.specs.Runs.{Runs}
 
@@ -34,8 +34,8 @@ map_next f (y ∷ ys) zero x inside is = rw is refl
 map_next f (y ∷ ys) (suc i) x inside is = ap (λ l. f y ∷ l) (map_next f ys i x (omega (arith, inside)) is)
 
 -- one event more is applied
-pub runs_more : (scopes : List Scope) (old now new : SiteState) (events : List Event) (results : List (Result Reply Refusal)) (i : ℕ) (e : Event) (r : Result Reply Refusal)
-    → i < length events → e ≡ get_or events i e → Runs scopes old (take i events) results now → SiteSteps scopes now (event_of e) (answer_from r) new
+pub runs_more : (scopes : List Scope) (old now new : CoreState) (events : List Event) (results : List (Result Reply Refusal)) (i : ℕ) (e : Event) (r : Result Reply Refusal)
+    → i < length events → e ≡ get_or events i e → Runs scopes old (take i events) results now → CoreSteps scopes now (event_of e) (answer_from r) new
     → Runs scopes old (take (suc i) events) (results ++ r ∷ []) new
 runs_more scopes old now new events results i e r inside at before step = λ p stands.
     let es = map event_of (take i events) in
@@ -43,9 +43,9 @@ runs_more scopes old now new events results i e r inside at before step = λ p s
     let was = before p stands in
     let stepped = step (after p es told) was.1 in
     let pushed = run_push es told p (event_of e) (answer_from r) was.0 stepped.0 in
-    subst (λ l. Run p l (map answer_from (results ++ r ∷ [])) × SiteStands (after p l (map answer_from (results ++ r ∷ []))) scopes new) (map_next event_of events i e inside at)
-    (subst (λ l. Run p (es ++ event_of e ∷ []) l × SiteStands (after p (es ++ event_of e ∷ []) l) scopes new) (sym (map-append answer_from results (r ∷ [])))
-    (pushed.0, subst (λ q. SiteStands q scopes new) (sym pushed.1) stepped.1))
+    subst (λ l. Run p l (map answer_from (results ++ r ∷ [])) × CoreStands (after p l (map answer_from (results ++ r ∷ []))) scopes new) (map_next event_of events i e inside at)
+    (subst (λ l. Run p (es ++ event_of e ∷ []) l × CoreStands (after p (es ++ event_of e ∷ []) l) scopes new) (sym (map-append answer_from results (r ∷ [])))
+    (pushed.0, subst (λ q. CoreStands q scopes new) (sym pushed.1) stepped.1))
 
 -- a run goes on with another, and ends where that ends
 run_joined : (events : List plain.Event) (answers : List plain.Answer) (p : Plain) (more : List plain.Event) (told : List plain.Answer) → Run p events answers
@@ -59,8 +59,8 @@ run_joined (e ∷ events) (a ∷ answers) p more told run rest =
     ((run.0, r.0), r.1)
 
 -- what leads from each state that the controller stands for to the next one keeps the headline
-pub headline_kept : (scopes : List Scope) (old new : SiteState) (events : List plain.Event) (answers : List plain.Answer)
-    → ((p : Plain) → SiteStands p scopes old → Run p events answers × SiteStands (after p events answers) scopes new)
+pub headline_kept : (scopes : List Scope) (old new : CoreState) (events : List plain.Event) (answers : List plain.Answer)
+    → ((p : Plain) → CoreStands p scopes old → Run p events answers × CoreStands (after p events answers) scopes new)
     → ((p : Plain) (earlier more : List plain.Event) (told answered : List plain.Answer) → IsReached p → Run p earlier told → Run (after p earlier told) more answered
     → Headline p (earlier ++ more) (told ++ answered))
     → KeepsTheHeadline scopes old events answers new
@@ -70,13 +70,13 @@ headline_kept scopes old new events answers steps law = λ p earlier told had.
       record {
         reached = had.reached;
         run = joined.0;
-        stands = subst (λ q. SiteStands q scopes new) (sym joined.1) stepped.1;
+        stands = subst (λ q. CoreStands q scopes new) (sym joined.1) stepped.1;
       },
       law p earlier events told answers had.reached had.run stepped.0,
     )
 
 -- one event
-pub one_kept : (scopes : List Scope) (old new : SiteState) (event : plain.Event) (answer : plain.Answer) → SiteSteps scopes old event answer new
+pub one_kept : (scopes : List Scope) (old new : CoreState) (event : plain.Event) (answer : plain.Answer) → CoreSteps scopes old event answer new
     → ((p : Plain) (earlier more : List plain.Event) (told answered : List plain.Answer) → IsReached p → Run p earlier told → Run (after p earlier told) more answered
     → Headline p (earlier ++ more) (told ++ answered))
     → KeepsTheHeadline scopes old (event ∷ []) (answer ∷ []) new

@@ -14,10 +14,10 @@ use Rattle.mt_plain.specs.Events.{no_shard}
 use Rattle.mt_plain.specs.Plain.{Lane, Live, Plain, live_at}
 use Rattle.mt_plain.specs.Refuse.{shard_of_range}
 use Rattle.mt_laws.proofs.LaneLemmas.{IsNumbered}
-use Rattle.mt_site_events.proofs.ShardLemmas.{cuts_ascend, each_at, lanes_numbered}
-use Rattle.mt_site_state.specs.Core.{workflow_at}
-use Rattle.mt_site_state.specs.Stands.{StandsForAny, lane_state}
-use Rattle.mt_site_state.specs.Ways.{SiteStands, SiteState}
+use Rattle.mt_refinement.proofs.ShardLemmas.{cuts_ascend, each_at, lanes_numbered}
+use Rattle.mt_stands.specs.Base.{workflow_at}
+use Rattle.mt_stands.specs.Stands.{StandsForAny, lane_state}
+use Rattle.mt_stands.specs.Ways.{CoreStands, CoreState}
 use Rattle.mt_workflow.specs.Workflows.{LaneState, WorkflowState}
 use Rattle.mt_site.specs.Shards.{shard_in, shard_or_none}
 
@@ -102,9 +102,9 @@ ranges_told live numbered are =
     by (lane ∷ lanes) = ap (λ rest. range_at live.cuts lane.shard ∷ rest) (by lanes)
 
 -- so a range is found among them as the state finds it
-pub shard_told : (p : Plain) (scopes : List Scope) (s : SiteState) (name : List ℕ) (range : KeyRange) → SiteStands p scopes s
-    → shard_in (workflow_at s.core.workflows name) range ≡ shard_of_range (live_at p name) range
-shard_told p scopes s name range stands = by (live_at p name) refl (workflow_at s.core.workflows name) (stands.core.workflows.each name)
+pub shard_told : (p : Plain) (scopes : List Scope) (s : CoreState) (name : List ℕ) (range : KeyRange) → CoreStands p scopes s
+    → shard_in (workflow_at s.base.workflows name) range ≡ shard_of_range (live_at p name) range
+shard_told p scopes s name range stands = by (live_at p name) refl (workflow_at s.base.workflows name) (stands.base.workflows.each name)
   where
     either : (b : Bool) (place : ℕ) → shard_or_none (cond b (Some place) None) ≡ cond b (Ok place) (Err no_shard)
     either true place = refl
@@ -115,8 +115,8 @@ shard_told p scopes s name range stands = by (live_at p name) refl (workflow_at 
     by None there (Some w) is = absurd is
     by (Some live) there None is = absurd is
     by (Some live) there (Some w) is =
-        let numbered : IsNumbered live = lanes_numbered p stands.core.reached name live there in
-        let are : AreCuts live.cuts = cuts_ascend p stands.core.reached name live there s.core.primaries stands.core.primaries in
+        let numbered : IsNumbered live = lanes_numbered p stands.base.reached name live there in
+        let are : AreCuts live.cuts = cuts_ascend p stands.base.reached name live there s.base.primaries stands.base.primaries in
         ap shard_or_none (position-image (same_range range) (λ (lane : LaneState). lane.range) w.lanes
         ∙ ap (λ lanes. position (same_range range) (map (λ (lane : LaneState). lane.range) lanes)) is.lanes
         ∙ ap (position (same_range range)) (ranges_told live numbered are)

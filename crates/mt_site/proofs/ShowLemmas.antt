@@ -9,7 +9,7 @@ use Rattle.mt_plain.specs.Events.{Shown, ShownLane, Slot, Way, back, forward, fr
 use Rattle.mt_stream.proofs.ListLemmas.{take_next}
 use Rattle.mt_stream.specs.Streams.{StreamValue, has_ended}
 use Rattle.mt_workflow.specs.Workflows.{LaneState, WorkflowState, lane_slot}
-use Rattle.mt_site_state.specs.Workflows.{lane_by, shown_by, slot_from}
+use Rattle.mt_stands.specs.Workflows.{lane_by, shown_by, slot_from}
 
 -- a lane that is there, by its range and its streams
 pub lane_told : (o : Option LaneState) (f : StreamValue) → option_and_then (lane_slot forward) o ≡ Some f → (r : KeyRange) → option_map (λ (lane : LaneState). lane.range) o ≡ Some r

@@ -28,33 +28,33 @@ use Rattle.mt_steps.specs.Streams.{KeepsToTest}
 use Rattle.mt_steps.specs.Undo.{IsLogOf, UndoState}
 use Rattle.mt_watch.specs.Asking.{Answering}
 use Rattle.mt_workflow.specs.Workflows.{WorkflowState, keys_of_part, live_of}
-use Rattle.mt_site_ways.proofs.SameLemmas.{sides_same}
-use Rattle.mt_site_ways.proofs.AnswerUndoLemmas.{undo_same}
-use Rattle.mt_primaries.specs.Primaries.{Primaries, count_of, has_primaries, primary_of, shards_of}
-use Rattle.mt_site_state.specs.Core.{CoreState, Workflows, workflow_at}
-use Rattle.mt_site_state.specs.Stands.{Stands, StandsWith}
-use Rattle.mt_site_state.specs.Switching.{BeginsReverseAt, BeginsSwitchAt, CompletesAt, OrRefused, SiteDoes, StepsAt, StepsKept, StepsWay, StepsWorkflow, UndoesWorkflow, answer_by_step, completed, is_copying, no_number_left, sides_of, step_refusal, way_to, with_sides, with_way}
-use Rattle.mt_site_state.specs.Ways.{OpenWays, SiteStands, SiteState, WaysState, open_at}
-use Rattle.mt_site_workflows.specs.Ways.{CanComplete, CanStep}
+use Rattle.mt_refinement.proofs.SameLemmas.{sides_same}
+use Rattle.mt_refinement.proofs.AnswerUndoLemmas.{undo_same}
+use Rattle.mt_primary.specs.Primaries.{Primaries, count_of, has_primaries, primary_of, shards_of}
+use Rattle.mt_stands.specs.Base.{BaseState, Workflows, workflow_at}
+use Rattle.mt_stands.specs.Stands.{Stands, StandsWith}
+use Rattle.mt_stands.specs.Switching.{BeginsReverseAt, BeginsSwitchAt, CompletesAt, OrRefused, CoreDoes, StepsAt, StepsKept, StepsWay, StepsWorkflow, UndoesWorkflow, answer_by_step, completed, is_copying, no_number_left, sides_of, step_refusal, way_to, with_sides, with_way}
+use Rattle.mt_stands.specs.Ways.{OpenWays, CoreStands, CoreState, WaysState, open_at}
+use Rattle.mt_moves.specs.Ways.{CanComplete, CanStep}
 
 -- the controller, of its parts
-abbrev pub site : TopologyState → Primaries → Workflows → OpenWays → List JournalEntry → ℕ → SiteState
-site t ps ws os journal begun = record { core = record { topology = t; primaries = ps; workflows = ws }; ways = record { opened = os; journal = journal; begun = begun } }
+abbrev pub site : TopologyState → Primaries → Workflows → OpenWays → List JournalEntry → ℕ → CoreState
+site t ps ws os journal begun = record { base = record { topology = t; primaries = ps; workflows = ws }; ways = record { opened = os; journal = journal; begun = begun } }
 
 -- its core stands for what it stands for
-pub stands_core : (p : Plain) (scopes : List Scope) (s : SiteState) → SiteStands p scopes s → Stands p s.core
-stands_core p scopes s stands = subst (λ l. StandsWith p l s.core) (sym stands.core.scopes_are) stands.core
+pub stands_base : (p : Plain) (scopes : List Scope) (s : CoreState) → CoreStands p scopes s → Stands p s.base
+stands_base p scopes s stands = subst (λ l. StandsWith p l s.base) (sym stands.base.scopes_are) stands.base
 
 -- what leaves the ways as they are
-pub joined : (old new : SiteState) → new.ways ≡ old.ways → record old { core = new.core } ≡ new
-joined old new same = let by : WaysState → SiteState = λ ways. record { core = new.core; ways = ways } in ap by (sym same)
+pub joined : (old new : CoreState) → new.ways ≡ old.ways → record old { base = new.base } ≡ new
+joined old new same = let by : WaysState → CoreState = λ ways. record { base = new.base; ways = ways } in ap by (sym same)
 
 -- a core beside what is kept of the ways
-abbrev pub whole : CoreState → WaysState → SiteState
-whole core ways = record { core = core; ways = ways }
+abbrev pub whole : BaseState → WaysState → CoreState
+whole core ways = record { base = core; ways = ways }
 
 -- a refusal that leaves the core leaves the whole
-pub lifted : {X E : Type 0} (r : Result X E) (ways : WaysState) (new old : CoreState) → OnErr r (new ≡ old) → OnErr r (whole new ways ≡ whole old ways)
+pub lifted : {X E : Type 0} (r : Result X E) (ways : WaysState) (new old : BaseState) → OnErr r (new ≡ old) → OnErr r (whole new ways ≡ whole old ways)
 lifted (Ok made) ways new old leaves = tt
 lifted (Err refusal) ways new old leaves = ap (λ core. whole core ways) leaves
 
@@ -75,11 +75,11 @@ text_served bytes (Ok t) a b same is = is ∙ same
 text_served bytes (Err f) a b same is = is
 
 -- what is decided by one test, and refused
-refused_leaves : (old new : SiteState) (refusal : Option Refusal) (grows : Bool) (made : SiteState) (r : Refusal) → SiteDoes old refusal grows made (refused r) new → new ≡ old
+refused_leaves : (old new : CoreState) (refusal : Option Refusal) (grows : Bool) (made : CoreState) (r : Refusal) → CoreDoes old refusal grows made (refused r) new → new ≡ old
 refused_leaves old new refusal grows made memory is = is.2
 refused_leaves old new refusal grows made other is = is.1
 
-pub site_does_leave : (old new : SiteState) (refusal : Option Refusal) (grows : Bool) (made : SiteState) (result : Result ⊤ code.Reason) → SiteDoes old refusal grows made (done_by result) new → OnErr result (new ≡ old)
+pub site_does_leave : (old new : CoreState) (refusal : Option Refusal) (grows : Bool) (made : CoreState) (result : Result ⊤ code.Reason) → CoreDoes old refusal grows made (done_by result) new → OnErr result (new ≡ old)
 site_does_leave old new refusal grows made (Ok reply) is = tt
 site_does_leave old new refusal grows made (Err r) is = refused_leaves old new refusal grows made (reason_from r) is
 
@@ -92,23 +92,23 @@ few way less = by (changes_primary way) less
     by false is = omega (arith, is)
 
 -- what a step and an undo ask for
-pub can_step : (s : SiteState) (name : List ℕ)
-    → ((w : WorkflowState) → workflow_at s.core.workflows name ≡ Some w → w.name ≡ name)
-    → ((w : WorkflowState) → workflow_at s.core.workflows name ≡ Some w → has_primaries s.core.primaries w.source ≡ true)
-    → ((w : WorkflowState) → workflow_at s.core.workflows name ≡ Some w → has_primaries s.core.primaries w.target ≡ true)
-    → ((w : WorkflowState) → workflow_at s.core.workflows name ≡ Some w → w.source ≢ w.target)
-    → ((w : WorkflowState) → workflow_at s.core.workflows name ≡ Some w → All (λ key. has_place s.core.topology key ≡ true) (keys_of_part w))
-    → ((w : WorkflowState) (way : Way) → workflow_at s.core.workflows name ≡ Some w → w.way ≡ Some way → is_some (open_at s.ways.opened name) ≡ true)
-    → ((w : WorkflowState) (way : Way) (o : OpenWay) → workflow_at s.core.workflows name ≡ Some w → w.way ≡ Some way → open_at s.ways.opened name ≡ Some o → IsLogOf w o.log)
-    → ((w : WorkflowState) (way : Way) → workflow_at s.core.workflows name ≡ Some w → w.way ≡ Some way → next_step way < behind_last way)
-    → ((w : WorkflowState) (way : Way) (o : OpenWay) → workflow_at s.core.workflows name ≡ Some w → w.way ≡ Some way → open_at s.ways.opened name ≡ Some o
+pub can_step : (s : CoreState) (name : List ℕ)
+    → ((w : WorkflowState) → workflow_at s.base.workflows name ≡ Some w → w.name ≡ name)
+    → ((w : WorkflowState) → workflow_at s.base.workflows name ≡ Some w → has_primaries s.base.primaries w.source ≡ true)
+    → ((w : WorkflowState) → workflow_at s.base.workflows name ≡ Some w → has_primaries s.base.primaries w.target ≡ true)
+    → ((w : WorkflowState) → workflow_at s.base.workflows name ≡ Some w → w.source ≢ w.target)
+    → ((w : WorkflowState) → workflow_at s.base.workflows name ≡ Some w → All (λ key. has_place s.base.topology key ≡ true) (keys_of_part w))
+    → ((w : WorkflowState) (way : Way) → workflow_at s.base.workflows name ≡ Some w → w.way ≡ Some way → is_some (open_at s.ways.opened name) ≡ true)
+    → ((w : WorkflowState) (way : Way) (o : OpenWay) → workflow_at s.base.workflows name ≡ Some w → w.way ≡ Some way → open_at s.ways.opened name ≡ Some o → IsLogOf w o.log)
+    → ((w : WorkflowState) (way : Way) → workflow_at s.base.workflows name ≡ Some w → w.way ≡ Some way → next_step way < behind_last way)
+    → ((w : WorkflowState) (way : Way) (o : OpenWay) → workflow_at s.base.workflows name ≡ Some w → w.way ≡ Some way → open_at s.ways.opened name ≡ Some o
     → stands_done way write_journal ≡ false → entry_of s.ways.journal o.number ≡ None)
-    → ((w : WorkflowState) (way : Way) → workflow_at s.core.workflows name ≡ Some w → w.way ≡ Some way
-    → KeepsToTest w way (next_step way) (primary_of s.core.primaries w.source 0) (shards_of s.core.primaries w.target).each)
-    → ((w : WorkflowState) → workflow_at s.core.workflows name ≡ Some w → count_of s.core.primaries w.source ≡ 1)
-    → ((w : WorkflowState) → workflow_at s.core.workflows name ≡ Some w → length w.lanes ≡ count_of s.core.primaries w.target)
-    → ((w : WorkflowState) (way : Way) → workflow_at s.core.workflows name ≡ Some w → w.way ≡ Some way → way.shards ≡ length w.lanes)
-    → CanStep s.core.topology s.core.primaries s.core.workflows s.ways.journal s.ways.opened name
+    → ((w : WorkflowState) (way : Way) → workflow_at s.base.workflows name ≡ Some w → w.way ≡ Some way
+    → KeepsToTest w way (next_step way) (primary_of s.base.primaries w.source 0) (shards_of s.base.primaries w.target).each)
+    → ((w : WorkflowState) → workflow_at s.base.workflows name ≡ Some w → count_of s.base.primaries w.source ≡ 1)
+    → ((w : WorkflowState) → workflow_at s.base.workflows name ≡ Some w → length w.lanes ≡ count_of s.base.primaries w.target)
+    → ((w : WorkflowState) (way : Way) → workflow_at s.base.workflows name ≡ Some w → w.way ≡ Some way → way.shards ≡ length w.lanes)
+    → CanStep s.base.topology s.base.primaries s.base.workflows s.ways.journal s.ways.opened name
 can_step s name named source target apart places there kept within unused unread single targets shards = record {
   there = there;
   each = λ w way o found on opened. record {
@@ -129,16 +129,16 @@ can_step s name named source target apart places there kept within unused unread
 
 -- ---- a step that is refused
 
-module _ (mine : List Scope) (may_answer : Answering) (old new : SiteState) (workflow : List ℕ) (at : ℕ) (r : Refusal)
-    (named : (w : WorkflowState) → workflow_at old.core.workflows workflow ≡ Some w → w.name ≡ workflow) where
-  module _ (w : WorkflowState) (found : workflow_at old.core.workflows workflow ≡ Some w) (way : Way) (opens : w.way ≡ Some way) where
+module _ (mine : List Scope) (may_answer : Answering) (old new : CoreState) (workflow : List ℕ) (at : ℕ) (r : Refusal)
+    (named : (w : WorkflowState) → workflow_at old.base.workflows workflow ≡ Some w → w.name ≡ workflow) where
+  module _ (w : WorkflowState) (found : workflow_at old.base.workflows workflow ≡ Some w) (way : Way) (opens : w.way ≡ Some way) where
     failed : (o : OpenWay) → open_at old.ways.opened w.name ≡ Some o → (result : Result ⊤ StepFault) (sides : SidesState) (log : UndoState)
         → Steps mine may_answer o.number way (step_at (next_step way)) (sides_of old w) o.log result sides log → refused r ≡ answer_by_step result
         → new ≡ with_sides old w sides (record { number = o.number; log = log }) → new ≡ old
     failed o kept (Ok made) sides log steps is same = absurd (let never : refused r ≡ done = is in cc)
     failed o kept (Err f) sides log steps is same =
         same ∙ ap (λ x. with_sides old w x (record { number = o.number; log = log })) steps.1 ∙ ap (λ x. with_sides old w (sides_of old w) (record { number = o.number; log = x })) steps.2
-        ∙ sides_same old w way o opens (subst (λ n. workflow_at old.core.workflows n ≡ Some w) (sym (named w found)) found) kept
+        ∙ sides_same old w way o opens (subst (λ n. workflow_at old.base.workflows n ≡ Some w) (sym (named w found)) found) kept
 
     kept_same : (k : Option OpenWay) → open_at old.ways.opened w.name ≡ k → StepsKept k old mine may_answer w way (refused r) new → new ≡ old
     kept_same None kept is = absurd is
@@ -148,20 +148,20 @@ module _ (mine : List Scope) (may_answer : Answering) (old new : SiteState) (wor
     tested_same None is = kept_same (open_at old.ways.opened w.name) refl is
     tested_same (Some s) is = is.1
 
-  way_same : (w : WorkflowState) → workflow_at old.core.workflows workflow ≡ Some w → (o : Option Way) → w.way ≡ o → StepsWay o old mine may_answer w at (refused r) new → new ≡ old
+  way_same : (w : WorkflowState) → workflow_at old.base.workflows workflow ≡ Some w → (o : Option Way) → w.way ≡ o → StepsWay o old mine may_answer w at (refused r) new → new ≡ old
   way_same w found None rests is = is.1
   way_same w found (Some way) opens is = tested_same w found way opens (step_refusal at way) is
 
   stepped_leaves : StepsWorkflow old mine may_answer workflow at (refused r) new → new ≡ old
-  stepped_leaves = by (workflow_at old.core.workflows workflow) refl
+  stepped_leaves = by (workflow_at old.base.workflows workflow) refl
     where
-      by : (o : Option WorkflowState) → workflow_at old.core.workflows workflow ≡ o → StepsAt o old mine may_answer at (refused r) new → new ≡ old
+      by : (o : Option WorkflowState) → workflow_at old.base.workflows workflow ≡ o → StepsAt o old mine may_answer at (refused r) new → new ≡ old
       by None none is = is.1
       by (Some w) found is = way_same w found w.way refl is
 
 -- ---- what is refused leaves all as it was
 
-pub begin_switch_leaves : (old new : SiteState) (types : TypeSet) (result : Result ⊤ code.Reason) (o : Option WorkflowState) → BeginsSwitchAt o old types (done_by result) new → OnErr result (new ≡ old)
+pub begin_switch_leaves : (old new : CoreState) (types : TypeSet) (result : Result ⊤ code.Reason) (o : Option WorkflowState) → BeginsSwitchAt o old types (done_by result) new → OnErr result (new ≡ old)
 begin_switch_leaves old new types (Ok reply) o is = tt
 begin_switch_leaves old new types (Err r) None is = is.1
 begin_switch_leaves old new types (Err r) (Some w) is =
@@ -169,25 +169,25 @@ begin_switch_leaves old new types (Err r) (Some w) is =
     (at_rest (live_of w) (or_else (refuse_if (not (has_more types w.switched)) nothing_to_switch) (or_else (refuse_if (is_copying w) copying) (no_number_left old))))
     true (with_way old w (way_to w false (types_and w.switched types))) (reason_from r) is
 
-pub begin_reverse_leaves : (old new : SiteState) (types : TypeSet) (result : Result ⊤ code.Reason) (o : Option WorkflowState) → BeginsReverseAt o old types (done_by result) new → OnErr result (new ≡ old)
+pub begin_reverse_leaves : (old new : CoreState) (types : TypeSet) (result : Result ⊤ code.Reason) (o : Option WorkflowState) → BeginsReverseAt o old types (done_by result) new → OnErr result (new ≡ old)
 begin_reverse_leaves old new types (Ok reply) o is = tt
 begin_reverse_leaves old new types (Err r) None is = is.1
 begin_reverse_leaves old new types (Err r) (Some w) is =
     refused_leaves old new (at_rest (live_of w) (or_else (refuse_if (not (share_type types w.switched)) nothing_to_reverse) (no_number_left old)))
     true (with_way old w (way_to w true (types_without w.switched types))) (reason_from r) is
 
-pub completes_leave : (old new : SiteState) (result : Result ⊤ code.Reason) (o : Option WorkflowState) → CompletesAt o old (done_by result) new → OnErr result (new ≡ old)
+pub completes_leave : (old new : CoreState) (result : Result ⊤ code.Reason) (o : Option WorkflowState) → CompletesAt o old (done_by result) new → OnErr result (new ≡ old)
 completes_leave old new (Ok reply) o is = tt
 completes_leave old new (Err r) None is = is.1
-completes_leave old new (Err r) (Some w) is = refused_leaves old new (complete_refusal (live_of w)) false (record old { core = completed old.core w }) (reason_from r) is
+completes_leave old new (Err r) (Some w) is = refused_leaves old new (complete_refusal (live_of w)) false (record old { base = completed old.base w }) (reason_from r) is
 
-pub undoes_leave : (old new : SiteState) (workflow : List ℕ) (at : ℕ) (result : Result ⊤ code.Reason) → UndoesWorkflow old workflow at (done_by result) new → OnErr result (new ≡ old)
+pub undoes_leave : (old new : CoreState) (workflow : List ℕ) (at : ℕ) (result : Result ⊤ code.Reason) → UndoesWorkflow old workflow at (done_by result) new → OnErr result (new ≡ old)
 undoes_leave old new workflow at (Ok reply) is = tt
-undoes_leave old new workflow at (Err r) is = undo_same old new at (reason_from r) (workflow_at old.core.workflows workflow) is
+undoes_leave old new workflow at (Err r) is = undo_same old new at (reason_from r) (workflow_at old.base.workflows workflow) is
 
-module _ (scopes : List Scope) (may_answer : Answering) (old new : SiteState) (workflow : List ℕ) (at : ℕ) where
+module _ (scopes : List Scope) (may_answer : Answering) (old new : CoreState) (workflow : List ℕ) (at : ℕ) where
   pub steps_leave : (result : Result ⊤ code.Reason)
-      → ((w : WorkflowState) → workflow_at old.core.workflows workflow ≡ Some w → w.name ≡ workflow)
+      → ((w : WorkflowState) → workflow_at old.base.workflows workflow ≡ Some w → w.name ≡ workflow)
       → StepsWorkflow old scopes may_answer workflow at (done_by result) new → OnErr result (new ≡ old)
   steps_leave (Ok reply) named is = tt
   steps_leave (Err r) named is = stepped_leaves scopes may_answer old new workflow at (reason_from r) named is
@@ -201,7 +201,7 @@ tables-placed t keyspace [] there = tt
 tables-placed t keyspace (table ∷ tables) there =
     (there table (ap (λ b. b || among tables table) ((same_text_decides table table).1 refl)), tables-placed t keyspace tables (λ n among_n. there n (or_right (same_text table n) (among tables n) among_n)))
 
-pub can_complete : (core : CoreState) (name : List ℕ)
+pub can_complete : (core : BaseState) (name : List ℕ)
     → ((w : WorkflowState) → workflow_at core.workflows name ≡ Some w → w.name ≡ name)
     → ((w : WorkflowState) → workflow_at core.workflows name ≡ Some w → has_primaries core.primaries w.source ≡ true)
     → ((w : WorkflowState) → workflow_at core.workflows name ≡ Some w → w.source ≢ w.target)

@@ -9,16 +9,16 @@ use Rattle.mt_model.specs.declared.entries.Scope.{Scope}
 use Rattle.mt_plain.specs.Answers.{after}
 use Rattle.mt_plain.specs.Events.{Answer, Event}
 use Rattle.mt_plain.specs.Next.{next}
-use Rattle.mt_site_state.specs.Ways.{SiteState, SiteSteps}
+use Rattle.mt_stands.specs.Ways.{CoreState, CoreSteps}
 use Rattle.mt_site.specs.Runs.{Runs}
-use Rattle.mt_site.specs.Stood.{IsSiteWith}
+use Rattle.mt_site.specs.Stood.{IsCoreWith}
 
-pub stood_next : (scopes : List Scope) (old new : SiteState) (event : Event) (answer : Answer) → SiteSteps scopes old event answer new
-    → IsSiteWith scopes old → IsSiteWith scopes new
+pub stood_next : (scopes : List Scope) (old new : CoreState) (event : Event) (answer : Answer) → CoreSteps scopes old event answer new
+    → IsCoreWith scopes old → IsCoreWith scopes new
 stood_next scopes old new event answer steps stood = ∥∥₁_map stood (λ (p, stands). (next p event answer, (steps p stands).1))
 
 -- the same of events, one after the other
-pub stood_behind : (scopes : List Scope) (old new : SiteState) (events : List code.Event) (answers : List (Result Reply Refusal)) → Runs scopes old events answers new
-    → IsSiteWith scopes old → IsSiteWith scopes new
+pub stood_behind : (scopes : List Scope) (old new : CoreState) (events : List code.Event) (answers : List (Result Reply Refusal)) → Runs scopes old events answers new
+    → IsCoreWith scopes old → IsCoreWith scopes new
 stood_behind scopes old new events answers runs stood =
     ∥∥₁_map stood (λ (p, stands). (after p (map event_of events) (map answer_from answers), (runs p stands).1))

@@ -16,12 +16,12 @@ use Rattle.mt_plain.specs.Events.{Answer, Event, Slot, StreamName, Way, advance}
 use Rattle.mt_plain.specs.Next.{next}
 use Rattle.mt_plain.specs.Plain.{Lane, Live, Plain, lane_at, live_at}
 use Rattle.mt_plain.specs.Slots.{slot_of as plain_slot}
-use Rattle.mt_site_state.specs.Core.{workflow_at}
-use Rattle.mt_site_state.specs.Stands.{StandsForAny}
-use Rattle.mt_site_rows.specs.Rows.{stream_of}
-use Rattle.mt_site_state.proofs.LaneLemmas.{slot_in}
-use Rattle.mt_site_events.proofs.ShardLemmas.{lanes_numbered}
-use Rattle.mt_site_state.specs.Ways.{SiteStands, SiteState, SiteSteps}
+use Rattle.mt_stands.specs.Base.{workflow_at}
+use Rattle.mt_stands.specs.Stands.{StandsForAny}
+use Rattle.mt_stands.specs.Rows.{stream_of}
+use Rattle.mt_stands.proofs.LaneLemmas.{slot_in}
+use Rattle.mt_refinement.proofs.ShardLemmas.{lanes_numbered}
+use Rattle.mt_stands.specs.Ways.{CoreStands, CoreState, CoreSteps}
 use Rattle.mt_stream.specs.Streams.{StreamValue}
 use Rattle.mt_workflow.specs.Workflows.{WorkflowState, live_of, slot_of}
 use Rattle.mt_event.specs.declared.driven.Driven.{Driven}
@@ -31,14 +31,14 @@ use Rattle.mt_site.specs.Drives.{EndsFrom, IsOnItsWay, Turns}
 -- ---- one turn
 
 -- the event that is due is asked for, and what follows from its answer is said
-pub turn_taken : (scopes : List Scope) (old new : SiteState) (driving : Driving) (said : Heard) (event : Event) (answer : Answer)
-    → SiteSteps scopes old event answer new
-    → ((p : Plain) → SiteStands p scopes old → event ≡ event_of p driving)
-    → ((q : Plain) → SiteStands q scopes new → heard q driving answer ≡ said)
+pub turn_taken : (scopes : List Scope) (old new : CoreState) (driving : Driving) (said : Heard) (event : Event) (answer : Answer)
+    → CoreSteps scopes old event answer new
+    → ((p : Plain) → CoreStands p scopes old → event ≡ event_of p driving)
+    → ((q : Plain) → CoreStands q scopes new → heard q driving answer ≡ said)
     → Turns scopes old driving said new
 turn_taken scopes old new driving said event answer does due follows = λ p stands.
-    let done : Answers p (event_of p driving) answer × SiteStands (next p (event_of p driving) answer) scopes new
-    = subst (λ e. Answers p e answer × SiteStands (next p e answer) scopes new) (due p stands) (does p stands) in
+    let done : Answers p (event_of p driving) answer × CoreStands (next p (event_of p driving) answer) scopes new
+    = subst (λ e. Answers p e answer × CoreStands (next p e answer) scopes new) (due p stands) (does p stands) in
     (answer, done.0, done.1, follows (next p (event_of p driving) answer) done.1)
 
 -- the advance that is due
@@ -53,9 +53,9 @@ goes_on_either true x y = refl
 goes_on_either false x y = refl
 
 -- a workflow has as many lanes as the live one, and its streams stand where those of the live one do
-module _ (q : Plain) (scopes : List Scope) (s : SiteState) (name : List ℕ) (stands : SiteStands q scopes s) where
-  pub lanes_told : option_map_or (λ (w : WorkflowState). shard_count (live_of w).cuts) (workflow_at s.core.workflows name) 0 ≡ lanes_of q name
-  lanes_told = by (live_at q name) (workflow_at s.core.workflows name) (stands.core.workflows.each name)
+module _ (q : Plain) (scopes : List Scope) (s : CoreState) (name : List ℕ) (stands : CoreStands q scopes s) where
+  pub lanes_told : option_map_or (λ (w : WorkflowState). shard_count (live_of w).cuts) (workflow_at s.base.workflows name) 0 ≡ lanes_of q name
+  lanes_told = by (live_at q name) (workflow_at s.base.workflows name) (stands.base.workflows.each name)
     where
       by : (o : Option Live) (found : Option WorkflowState) → StandsForAny q o found → option_map_or (λ (w : WorkflowState). shard_count (live_of w).cuts) found 0 ≡ option_map_or (λ (w : Live). shard_count w.cuts) o 0
       by None None is = refl
@@ -64,8 +64,8 @@ module _ (q : Plain) (scopes : List Scope) (s : SiteState) (name : List ℕ) (st
       by (Some live) (Some w) is = ap shard_count (sym is.sides.cuts)
 
   pub position_told : (shard : ℕ) (stream : StreamName)
-      → option_map_or (λ (v : StreamValue). v.position) (option_and_then (λ w. slot_of w shard stream) (workflow_at s.core.workflows name)) 0 ≡ position_of q name stream shard
-  position_told shard stream = by (live_at q name) refl (workflow_at s.core.workflows name) (stands.core.workflows.each name)
+      → option_map_or (λ (v : StreamValue). v.position) (option_and_then (λ w. slot_of w shard stream) (workflow_at s.base.workflows name)) 0 ≡ position_of q name stream shard
+  position_told shard stream = by (live_at q name) refl (workflow_at s.base.workflows name) (stands.base.workflows.each name)
     where
       slots : (live : Live) (lane : Lane) (o : Option Slot) → option_map_or (λ (v : StreamValue). v.position) (option_map (stream_of live lane) o) 0 ≡ option_map_or (λ (slot : Slot). slot.position) o 0
       slots live lane None = refl
@@ -83,11 +83,11 @@ module _ (q : Plain) (scopes : List Scope) (s : SiteState) (name : List ℕ) (st
       by None at (Some w) is = absurd is
       by (Some live) at None is = absurd is
       by (Some live) at (Some w) is =
-          ap (λ o. option_map_or (λ (v : StreamValue). v.position) o 0) (slot_in q live w is (lanes_numbered q stands.core.reached name live at) shard stream)
+          ap (λ o. option_map_or (λ (v : StreamValue). v.position) o 0) (slot_in q live w is (lanes_numbered q stands.base.reached name live at) shard stream)
           ∙ each live (lane_at live shard)
 
-  pub way_told : option_and_then (λ (w : WorkflowState). w.way) (workflow_at s.core.workflows name) ≡ way_of q name
-  way_told = by (live_at q name) (workflow_at s.core.workflows name) (stands.core.workflows.each name)
+  pub way_told : option_and_then (λ (w : WorkflowState). w.way) (workflow_at s.base.workflows name) ≡ way_of q name
+  way_told = by (live_at q name) (workflow_at s.base.workflows name) (stands.base.workflows.each name)
     where
       by : (o : Option Live) (found : Option WorkflowState) → StandsForAny q o found → option_and_then (λ (w : WorkflowState). w.way) found ≡ option_and_then (λ (w : Live). w.way) o
       by None None is = refl
@@ -108,11 +108,11 @@ KeepsFitting = (turns : ℕ) (p : Plain) (d : Driving) (answer : Answer) → Fit
     → FitsHeard turns (next p (event_of p d) answer) (heard (next p (event_of p d) answer) d answer)
 
 -- a drive that begins is on its way
-pub starts : (scopes : List Scope) (old : SiteState) (start : Driving) → ((p : Plain) → Fits most_turns p start) → IsOnItsWay scopes old start most_turns start old
+pub starts : (scopes : List Scope) (old : CoreState) (start : Driving) → ((p : Plain) → Fits most_turns p start) → IsOnItsWay scopes old start most_turns start old
 starts scopes old start fits = λ p stands. (p, stands, fits p, λ result new ends. ends)
 
 -- it stays so with each turn
-pub goes_further : (scopes : List Scope) (old now new : SiteState) (start driving after : Driving) (left : ℕ) → KeepsFitting
+pub goes_further : (scopes : List Scope) (old now new : CoreState) (start driving after : Driving) (left : ℕ) → KeepsFitting
     → IsOnItsWay scopes old start (suc left) driving now → Turns scopes now driving (goes_on after) new → IsOnItsWay scopes old start left after new
 goes_further scopes old now new start driving after left keeps on turn = λ p stands.
     let way = on p stands in
@@ -123,13 +123,13 @@ goes_further scopes old now new start driving after left keeps on turn = λ p st
       taken.2,
       subst (FitsHeard left r) taken.3 (keeps left q driving taken.0 way.2 taken.1),
       λ result final ended. way.3 result final
-          (taken.0, taken.1, subst (GoesOn (Drives Answers left (λ e s. (e ≡ ended_from result) × SiteStands s scopes final)) (λ e s. (e ≡ ended_from result) × SiteStands s scopes final) r) (sym taken.3) ended),
+          (taken.0, taken.1, subst (GoesOn (Drives Answers left (λ e s. (e ≡ ended_from result) × CoreStands s scopes final)) (λ e s. (e ≡ ended_from result) × CoreStands s scopes final) r) (sym taken.3) ended),
     )
 
 -- and as a turn ends, so ends the whole drive
-pub ends_so : (scopes : List Scope) (old now new : SiteState) (start driving : Driving) (driven : Driven) (left : ℕ)
+pub ends_so : (scopes : List Scope) (old now new : CoreState) (start driving : Driving) (driven : Driven) (left : ℕ)
     → IsOnItsWay scopes old start (suc left) driving now → Turns scopes now driving (ends (Ok (driven_from driven))) new
-    → (p : Plain) → SiteStands p scopes old → EndsFrom scopes most_turns start p (Ok driven) new
+    → (p : Plain) → CoreStands p scopes old → EndsFrom scopes most_turns start p (Ok driven) new
 ends_so scopes old now new start driving driven left on turn = λ p stands.
     let way = on p stands in
     let q = way.0 in
@@ -137,25 +137,25 @@ ends_so scopes old now new start driving driven left on turn = λ p stands.
     way.3 (Ok driven) new (
       taken.0,
       taken.1,
-      subst (GoesOn (Drives Answers left (λ e s. (e ≡ ended_from (Ok driven)) × SiteStands s scopes new)) (λ e s. (e ≡ ended_from (Ok driven)) × SiteStands s scopes new) (next q (event_of q driving) taken.0)) (sym taken.3)
+      subst (GoesOn (Drives Answers left (λ e s. (e ≡ ended_from (Ok driven)) × CoreStands s scopes new)) (λ e s. (e ≡ ended_from (Ok driven)) × CoreStands s scopes new) (next q (event_of q driving) taken.0)) (sym taken.3)
           (refl, taken.2),
     )
 
 -- no turn is missing
-pub never_out : (scopes : List Scope) (old now new : SiteState) (start driving : Driving) (result : Result Driven Refusal) → ((p : Plain) (d : Driving) → Fits 0 p d → ⊥)
-    → IsOnItsWay scopes old start 0 driving now → (p : Plain) → SiteStands p scopes old → EndsFrom scopes most_turns start p result new
+pub never_out : (scopes : List Scope) (old now new : CoreState) (start driving : Driving) (result : Result Driven Refusal) → ((p : Plain) (d : Driving) → Fits 0 p d → ⊥)
+    → IsOnItsWay scopes old start 0 driving now → (p : Plain) → CoreStands p scopes old → EndsFrom scopes most_turns start p result new
 never_out scopes old now new start driving result never on = λ p stands. let way = on p stands in absurd (never way.0 driving way.2)
 
 -- ---- the begin
 
 -- one that is refused ends it
-pub refused_begin : (scopes : List Scope) (old new : SiteState) (workflow : List ℕ) (types : TypeSet) (back : Bool) (refusal : Refusal) (turns : ℕ)
+pub refused_begin : (scopes : List Scope) (old new : CoreState) (workflow : List ℕ) (types : TypeSet) (back : Bool) (refusal : Refusal) (turns : ℕ)
     → Turns scopes old (begins workflow types back) (ends (Err (refusal_from refusal))) new
-    → (p : Plain) → SiteStands p scopes old → EndsFrom scopes (suc turns) (begins workflow types back) p (Err refusal) new
+    → (p : Plain) → CoreStands p scopes old → EndsFrom scopes (suc turns) (begins workflow types back) p (Err refusal) new
 refused_begin scopes old new workflow types back refusal turns turn = λ p stands.
     let taken = turn p stands in (
       taken.0,
       taken.1,
-      subst (GoesOn (Drives Answers turns (λ e s. (e ≡ ended_from (Err refusal)) × SiteStands s scopes new)) (λ e s. (e ≡ ended_from (Err refusal)) × SiteStands s scopes new) (next p (event_of p (begins workflow types back)) taken.0)) (sym taken.3)
+      subst (GoesOn (Drives Answers turns (λ e s. (e ≡ ended_from (Err refusal)) × CoreStands s scopes new)) (λ e s. (e ≡ ended_from (Err refusal)) × CoreStands s scopes new) (next p (event_of p (begins workflow types back)) taken.0)) (sym taken.3)
           (refl, taken.2),
     )

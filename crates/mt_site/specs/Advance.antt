@@ -14,11 +14,11 @@ use Rattle.mt_stream.specs.Advance.{Advances}
 use Rattle.mt_stream.specs.Streams.{StreamValue}
 use Rattle.mt_workflow.specs.Advance.{AdvancesSlot}
 use Rattle.mt_workflow.specs.Workflows.{WorkflowState, live_of, slot_of, with_slot}
-use Rattle.mt_site_rows.specs.Answers.{answer_by_stream}
-use Rattle.mt_primaries.specs.Places.{with_one}
-use Rattle.mt_primaries.specs.Primaries.{Primaries, ShardsState, count_of, primary_in, primary_of, with_primary}
-use Rattle.mt_site_state.specs.Core.{Workflows, workflow_at}
-use Rattle.mt_site_state.specs.Workflows.{shard_read, shard_written}
+use Rattle.mt_stands.specs.Answers.{answer_by_stream}
+use Rattle.mt_primary.specs.Places.{with_one}
+use Rattle.mt_primary.specs.Primaries.{Primaries, ShardsState, count_of, primary_in, primary_of, with_primary}
+use Rattle.mt_stands.specs.Base.{Workflows, workflow_at}
+use Rattle.mt_stands.specs.Workflows.{shard_read, shard_written}
 
 abbrev pub refusal_by_stream : StreamFault → Reason
 refusal_by_stream stream.Memory = reason.Memory

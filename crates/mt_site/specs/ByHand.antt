@@ -15,7 +15,7 @@ use Rattle.mt_model.specs.Rows.{RowValue}
 use Rattle.mt_plain.specs.Events.{Answer, refused, row}
 use Rattle.mt_primary.specs.Primary.{has_table}
 use Rattle.mt_primary.specs.Writes.{with_new_table}
-use Rattle.mt_primaries.specs.Primaries.{Primaries, count_of, has_primaries, primary_of, with_all}
+use Rattle.mt_primary.specs.Primaries.{Primaries, count_of, has_primaries, primary_of, with_all}
 
 abbrev pub refusal_by_topology : TopologyFault → Reason
 refusal_by_topology topology.Memory = reason.Memory

@@ -1,7 +1,7 @@
 -- The events that are owed to the workflows of a core (this profile's own).
 use Rattle.std.specs.Prelude.{ℕ, sum_by}
 use Rattle.mt_plain.specs.Refuse.{owed_by}
-use Rattle.mt_site_state.specs.Core.{Workflows}
+use Rattle.mt_stands.specs.Base.{Workflows}
 use Rattle.mt_workflow.specs.Workflows.{live_of}
 
 -- those owed to all, so that each can be given up

@@ -2,8 +2,8 @@
 use Rattle.std.specs.Prelude.{List}
 use Rattle.mt_model.specs.declared.entries.Scope.{Scope}
 use Rattle.mt_plain.specs.Plain.{Plain}
-use Rattle.mt_site_state.specs.Ways.{SiteStands, SiteState}
+use Rattle.mt_stands.specs.Ways.{CoreStands, CoreState}
 
 -- there is a state that it stands for, with watchers of these scopes
-abbrev pub IsSiteWith : List Scope → SiteState → Type 0
-IsSiteWith scopes s = ∥ ((p : Plain) × SiteStands p scopes s) ∥₁
+abbrev pub IsCoreWith : List Scope → CoreState → Type 0
+IsCoreWith scopes s = ∥ ((p : Plain) × CoreStands p scopes s) ∥₁

@@ -4,9 +4,9 @@ ghost use Rattle.std.specs.List.{IsDistinct};
 ghost use Rattle.std.specs.Map.{keys_of};
 ghost use Rattle.mt_names.specs.Names.{same_text};
 ghost use Rattle.mt_model.specs.Topology.{TopologyState};
-ghost use Rattle.mt_primaries.specs.Places.{IsAt};
-ghost use Rattle.mt_primaries.specs.Primaries.{has_primaries};
-ghost use Rattle.mt_site_state.specs.Workflows.{AdvancesWorkflow};
+ghost use Rattle.mt_primary.specs.Places.{IsAt};
+ghost use Rattle.mt_primary.specs.Primaries.{has_primaries};
+ghost use Rattle.mt_stands.specs.Workflows.{AdvancesWorkflow};
 ghost use Rattle.mt_stream.specs.Streams.{StreamValue};
 ghost use Rattle.mt_workflow.specs.Workflows.{slot_of, stream_name};
 ghost use Rattle.mt_site.specs.Advance.{AdvancesBeside, AdvancesBetween, AdvancesLane, AdvancesOne, CanAdvance, IsBetween, StandsBetween, advanced_from, answer_by_slot, read_beside, refusal_by_stream, written_beside};
@@ -14,7 +14,7 @@ ghost use Rattle.mt_site.specs.Advance.{AdvancesBeside, AdvancesBetween, Advance
 use crate::{Primaries, Workflows};
 use mt_event::Reason;
 use mt_names::{KeyspaceName, Position, WorkflowName};
-use mt_primaries::{Shards, two_of};
+use mt_primary::{Shards, two_of};
 use mt_stream::{Advanced, StreamFault};
 use mt_workflow::{Slot, Workflow};
 
@@ -163,7 +163,7 @@ pub(crate) fn advance(
     ensures { (topology : TopologyState) → AdvancesWorkflow (record { topology = topology; primaries = primaries.old; workflows = workflows.old.entries }) name.now (stream_name asked.slot) asked.shard asked.at asked.max (advanced_from result)
         (record { topology = topology; primaries = primaries.new; workflows = workflows.new.entries }) }
 {
-    match mt_few::get_mut(workflows, name) {
+    match workflows.get_mut(name) {
         None => Err(Reason::NoWorkflow),
         Some(workflow) => advance_lane(primaries, workflow, asked),
     }

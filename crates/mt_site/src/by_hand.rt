@@ -9,11 +9,11 @@ ghost use Rattle.mt_primary.specs.Writes.{with_new_table};
 ghost use Rattle.mt_primary.specs.Writes as writes;
 ghost use Rattle.mt_workflow.specs.Workflows.{live_of};
 ghost use Rattle.mt_event.specs.Reasons.{done_by};
-ghost use Rattle.mt_primaries.specs.Primaries.{count_of, has_primaries, primary_of};
-ghost use Rattle.mt_primaries.specs.Primaries as by_shard;
-ghost use Rattle.mt_site_state.specs.ByHand.{AddsKeyspace, AddsTable, EditsRule, is_owned};
-ghost use Rattle.mt_site_state.specs.Core as core;
-ghost use Rattle.mt_site_workflows.specs.Target.{changed_to};
+ghost use Rattle.mt_primary.specs.Primaries.{count_of, has_primaries, primary_of};
+ghost use Rattle.mt_primary.specs.Primaries as by_shard;
+ghost use Rattle.mt_stands.specs.ByHand.{AddsKeyspace, AddsTable, EditsRule, is_owned};
+ghost use Rattle.mt_stands.specs.Base as base;
+ghost use Rattle.mt_moves.specs.Target.{changed_to};
 ghost use Rattle.mt_site.specs.ByHand.{AreTables, CreatesTable, refusal_by_topology, without_table};
 
 use crate::{Primaries, Workflows};
@@ -45,7 +45,7 @@ pub(crate) fn add_keyspace(
     shards: &ShardList,
 ) -> Result<(), Reason>
     requires { AreTables topology.old primaries.old }
-    ensures { (workflows : core.Workflows) → AddsKeyspace (record { topology = topology.old; primaries = primaries.old; workflows = workflows }) name.now shards.now (done_by result)
+    ensures { (workflows : base.Workflows) → AddsKeyspace (record { topology = topology.old; primaries = primaries.old; workflows = workflows }) name.now shards.now (done_by result)
         (record { topology = topology.new; primaries = primaries.new; workflows = workflows }) }
 {
     if primaries.place(name).is_some() {
@@ -124,7 +124,7 @@ pub(crate) fn add_table(
     table: &TableName,
 ) -> Result<(), Reason>
     requires { AreTables topology.old primaries.old }
-    ensures { (workflows : core.Workflows) → AddsTable (record { topology = topology.old; primaries = primaries.old; workflows = workflows }) keyspace.now table.now (done_by result)
+    ensures { (workflows : base.Workflows) → AddsTable (record { topology = topology.old; primaries = primaries.old; workflows = workflows }) keyspace.now table.now (done_by result)
         (record { topology = topology.new; primaries = primaries.new; workflows = workflows }) }
 {
     if let Err(fault) = topology.add_table(keyspace, table) {

@@ -8,23 +8,23 @@ ghost use Rattle.mt_plain.specs.Events as plain;
 ghost use Rattle.mt_plain.specs.Plain.{Plain, live_at, opening};
 ghost use Rattle.mt_plain.specs.Refuse.{owed, shard_of_range};
 ghost use Rattle.mt_plain.specs.Serve.{served};
-ghost use Rattle.mt_primaries.specs.Primaries.{shards_of};
-ghost use Rattle.mt_site_state.specs.Core.{workflow_at};
-ghost use Rattle.mt_site_state.specs.Purges.{IsPurged, with_purges};
-ghost use Rattle.mt_site_state.specs.Ways.{SiteStands, SiteSteps, empty_site};
+ghost use Rattle.mt_primary.specs.Primaries.{shards_of};
+ghost use Rattle.mt_stands.specs.Base.{workflow_at};
+ghost use Rattle.mt_stands.specs.Purges.{IsPurged, with_purges};
+ghost use Rattle.mt_stands.specs.Ways.{CoreStands, CoreSteps, empty_core};
 ghost use Rattle.mt_site.specs.Applies.{AppliesAndPurges};
 ghost use Rattle.mt_site.specs.Commands.{is_command};
 ghost use Rattle.mt_site.specs.GivenUp.{CanBeGivenUp};
 ghost use Rattle.mt_site.specs.Headline.{KeepsTheHeadline};
 ghost use Rattle.mt_site.specs.Owed.{owed_to};
 ghost use Rattle.mt_site.specs.Shards.{shard_from, shard_in};
-ghost use Rattle.mt_site.specs.Stood.{IsSiteWith};
+ghost use Rattle.mt_site.specs.Stood.{IsCoreWith};
 
 mod commands;
 mod placed;
 mod workflows;
 
-use crate::owed::a_core_owes_what_its_state_owes;
+use crate::owed::a_base_owes_what_its_state_owes;
 use crate::replies::{advanced, created, done, row, show};
 use crate::{OpenWays, Primaries, Workflows, owed, shards};
 pub use commands::Command;
@@ -33,12 +33,14 @@ use mt_event::{Event, Refusal, Reply};
 use mt_journal::Journal;
 use mt_laws::every_run_keeps_the_headline;
 use mt_model::TopologyFault;
+use mt_moves::purge;
 use mt_names::{KeyRange, KeyspaceName, RuleKey, RuleTarget, TabletType, WorkflowName};
 use mt_primary::Primary;
+use mt_refinement::{
+    a_base_tells_what_its_state_serves, a_core_stays_one, a_purged_base_stands,
+    a_purged_core_stands,
+};
 use mt_rules::RulesFault;
-use mt_site_events::{a_core_tells_what_its_state_serves, a_purged_core_stands};
-use mt_site_ways::{a_purged_site_stands, a_site_stays_one};
-use mt_site_workflows::purge;
 use mt_topology::Topology;
 use mt_watch::Asks;
 use mt_workflow::Workflow;
@@ -61,17 +63,17 @@ pub struct Core {
 }
 
 impl Model for Core {
-    ghost use Rattle.mt_site_state.specs.Ways.{IsSite, SiteState};
+    ghost use Rattle.mt_stands.specs.Ways.{IsCore, CoreState};
 
-    ghost Value = { SiteState };
+    ghost Value = { CoreState };
 
     ghost view = { λ core. record {
-      core = record { topology = core.topology; primaries = core.primaries; workflows = core.workflows.entries };
+      base = record { topology = core.topology; primaries = core.primaries; workflows = core.workflows.entries };
       ways = record { opened = core.opened.entries; journal = core.journal; begun = core.begun };
     } };
 
-    ghost invariant = { λ core. IsSite (record {
-      core = record { topology = core.topology; primaries = core.primaries; workflows = core.workflows.entries };
+    ghost invariant = { λ core. IsCore (record {
+      base = record { topology = core.topology; primaries = core.primaries; workflows = core.workflows.entries };
       ways = record { opened = core.opened.entries; journal = core.journal; begun = core.begun };
     }) };
 }
@@ -79,11 +81,11 @@ impl Model for Core {
 impl Core {
     /// A core without keyspaces and workflows. It takes no memory.
     pub fn new(alloc: Global) -> Self
-        ensures value { result ≡ empty_site }
-        ensures stands { (scopes : List Scope) → SiteStands (opening scopes) scopes result }
-        ensures purged { IsPurged result.core }
+        ensures value { result ≡ empty_core }
+        ensures stands { (scopes : List Scope) → CoreStands (opening scopes) scopes result }
+        ensures purged { IsPurged result.base }
     {
-        a_site_stays_one();
+        a_core_stays_one();
         Core {
             alloc,
             topology: Topology::new(alloc),
@@ -97,22 +99,22 @@ impl Core {
 
     /// The topology. It takes no memory.
     pub fn topology(&self) -> &Topology
-        ensures { result.now ≡ self.now.core.topology }
+        ensures { result.now ≡ self.now.base.topology }
     {
         &self.topology
     }
 
     /// A live workflow, or none of that name. It takes no memory.
     pub fn workflow(&self, name: &WorkflowName) -> Option<&Workflow>
-        ensures { option_copied result ≡ workflow_at self.now.core.workflows name.now }
+        ensures { option_copied result ≡ workflow_at self.now.base.workflows name.now }
     {
-        mt_few::get(&self.workflows, name)
+        self.workflows.get(name)
     }
 
     /// The primary of a shard of a keyspace, or none: its rows, and its log, of which is kept what a stream has still to read. It takes no
     /// memory.
     pub fn primary(&self, keyspace: &KeyspaceName, shard: u8) -> Option<&Primary>
-        ensures { option_copied result ≡ slice_get (shards_of self.now.core.primaries keyspace.now).each shard }
+        ensures { option_copied result ≡ slice_get (shards_of self.now.base.primaries keyspace.now).each shard }
     {
         match self.primaries.place(keyspace) {
             None => None,
@@ -122,8 +124,8 @@ impl Core {
 
     /// The shard of a live workflow's target whose range is written so, by its place: `F7 NoWorkflow`, `F32 NoShard`. It takes no memory.
     pub fn shard(&self, workflow: &WorkflowName, range: &KeyRange) -> Result<u8, Refusal>
-        ensures place { shard_from result ≡ shard_in (workflow_at self.now.core.workflows workflow.now) range.now }
-        ensures stands { (p : Plain) (scopes : List Scope) → SiteStands p scopes self.now → shard_from result ≡ shard_of_range (live_at p workflow.now) range.now }
+        ensures place { shard_from result ≡ shard_in (workflow_at self.now.base.workflows workflow.now) range.now }
+        ensures stands { (p : Plain) (scopes : List Scope) → CoreStands p scopes self.now → shard_from result ≡ shard_of_range (live_at p workflow.now) range.now }
     {
         shards::place_of(&self.workflows, workflow, range)
     }
@@ -134,53 +136,53 @@ impl Core {
         key: &RuleKey,
         tablet_type: TabletType,
     ) -> Result<RuleTarget, TopologyFault>
-        ensures value { result ≡ resolution self.now.core.topology key.now tablet_type }
-        ensures served { (p : Plain) (scopes : List Scope) → SiteStands p scopes self.now → result ≡ resolution (served p) key.now tablet_type }
+        ensures value { result ≡ resolution self.now.base.topology key.now tablet_type }
+        ensures served { (p : Plain) (scopes : List Scope) → CoreStands p scopes self.now → result ≡ resolution (served p) key.now tablet_type }
     {
-        a_core_tells_what_its_state_serves();
+        a_base_tells_what_its_state_serves();
         self.topology.resolve(key, tablet_type)
     }
 
     /// The document of the rules, as the commands `rules` and `mt rules` write them: `R0 Memory`.
     pub fn rules_json(&self) -> Result<String, RulesFault>
-        ensures text { IfOk result (λ text. string_bytes text ≡ rules_text self.now.core.topology.rules) }
-        ensures served { (p : Plain) (scopes : List Scope) → SiteStands p scopes self.now → IfOk result (λ text. string_bytes text ≡ rules_text (served p).rules) }
+        ensures text { IfOk result (λ text. string_bytes text ≡ rules_text self.now.base.topology.rules) }
+        ensures served { (p : Plain) (scopes : List Scope) → CoreStands p scopes self.now → IfOk result (λ text. string_bytes text ≡ rules_text (served p).rules) }
         ensures memory { IfErr result (λ fault. fault ≡ RulesFault.Memory) }
     {
-        a_site_stays_one();
-        a_core_tells_what_its_state_serves();
+        a_core_stays_one();
+        a_base_tells_what_its_state_serves();
         self.topology.rules().to_json(self.alloc)
     }
 
     /// The document of the whole topology: `T0 Memory`.
     pub fn dump(&self) -> Result<String, TopologyFault>
-        ensures text { IfOk result (λ text. string_bytes text ≡ dump_text self.now.core.topology) }
-        ensures served { (p : Plain) (scopes : List Scope) → SiteStands p scopes self.now → IfOk result (λ text. string_bytes text ≡ dump_text (served p)) }
+        ensures text { IfOk result (λ text. string_bytes text ≡ dump_text self.now.base.topology) }
+        ensures served { (p : Plain) (scopes : List Scope) → CoreStands p scopes self.now → IfOk result (λ text. string_bytes text ≡ dump_text (served p)) }
         ensures memory { IfErr result (λ fault. fault ≡ TopologyFault.Memory) }
     {
-        a_site_stays_one();
-        a_core_tells_what_its_state_serves();
+        a_core_stays_one();
+        a_base_tells_what_its_state_serves();
         self.topology.dump(self.alloc)
     }
 
     /// The events that are owed to the live workflows, so that each can be given up: to each its Cancel, and where a way is
     /// open before its journal an undo of each step that stands done, or of the begin. It takes no memory.
     pub fn owed(&self) -> usize
-        ensures value { result ≡ owed_to self.now.core.workflows }
-        ensures served { (p : Plain) (scopes : List Scope) → SiteStands p scopes self.now → result ≡ owed p }
+        ensures value { result ≡ owed_to self.now.base.workflows }
+        ensures served { (p : Plain) (scopes : List Scope) → CoreStands p scopes self.now → result ≡ owed p }
     {
-        a_site_stays_one();
-        a_core_owes_what_its_state_owes();
+        a_core_stays_one();
+        a_base_owes_what_its_state_owes();
         owed::owed(&self.workflows)
     }
 
     /// Drops what no stream will read any more of each log. It takes no memory.
     fn purge(&mut self)
-        ensures core { self.new.core ≡ with_purges self.old.core }
+        ensures base { self.new.base ≡ with_purges self.old.base }
         ensures ways { self.new.ways ≡ self.old.ways }
     {
+        a_purged_base_stands();
         a_purged_core_stands();
-        a_purged_site_stands();
         purge(&self.workflows, &mut self.primaries);
     }
 
@@ -197,12 +199,12 @@ impl Core {
     /// stands for with these watchers. There is one if there was one before: from `new` on, if each call hands in watchers of the same scopes.
     pub fn apply<W: Asks>(&mut self, watchers: &W, event: &Event) -> Result<Reply, Refusal>
         ensures applies { AppliesAndPurges (W.scopes watchers.now) (W.may_answer watchers.now) self.old (event_of event.now) (answer_from result) self.new }
-        ensures steps { SiteSteps (W.scopes watchers.now) self.old (event_of event.now) (answer_from result) self.new }
+        ensures steps { CoreSteps (W.scopes watchers.now) self.old (event_of event.now) (answer_from result) self.new }
         ensures unchanged { OnErr result (self.new ≡ self.old) }
         ensures given_up { CanBeGivenUp self.old (event_of event.now) → answer_from result ≡ plain.done }
         ensures headline { KeepsTheHeadline (W.scopes watchers.now) self.old (event_of event.now ∷ []) (answer_from result ∷ []) self.new }
-        ensures stood { IsSiteWith (W.scopes watchers.now) self.old → IsSiteWith (W.scopes watchers.now) self.new }
-        ensures purged { IsPurged self.old.core → IsPurged self.new.core }
+        ensures stood { IsCoreWith (W.scopes watchers.now) self.old → IsCoreWith (W.scopes watchers.now) self.new }
+        ensures purged { IsPurged self.old.base → IsPurged self.new.base }
     {
         let told = match Command::of(event) {
             Some(command) => done(self.command(watchers, command)),
@@ -216,10 +218,10 @@ impl Core {
     fn apply_other<W: Asks>(&mut self, watchers: &W, event: &Event) -> Result<Reply, Refusal>
         requires { is_command event.now ≡ false }
         ensures applies { AppliesAndPurges (W.scopes watchers.now) (W.may_answer watchers.now) self.old (event_of event.now) (answer_from result) self.new }
-        ensures steps { SiteSteps (W.scopes watchers.now) self.old (event_of event.now) (answer_from result) self.new }
+        ensures steps { CoreSteps (W.scopes watchers.now) self.old (event_of event.now) (answer_from result) self.new }
         ensures unchanged { OnErr result (self.new ≡ self.old) }
         ensures given_up { CanBeGivenUp self.old (event_of event.now) → answer_from result ≡ plain.done }
-        ensures purged { IsPurged self.old.core → IsPurged self.new.core }
+        ensures purged { IsPurged self.old.base → IsPurged self.new.base }
     {
         match event {
             Event::Create {

@@ -3,8 +3,8 @@ ghost use Rattle.std.specs.Prelude.{◌≡◌, ◌≤◌, List, length};
 ghost use Rattle.mt_model.specs.declared.entries.Scope.{Scope};
 ghost use Rattle.mt_plain.specs.Plain.{Plain};
 ghost use Rattle.mt_plain.specs.Refuse.{most_workflows, owed, owed_by};
-ghost use Rattle.mt_site_state.specs.Core.{CoreState};
-ghost use Rattle.mt_site_state.specs.Stands.{IsCore, StandsWith};
+ghost use Rattle.mt_stands.specs.Base.{BaseState};
+ghost use Rattle.mt_stands.specs.Stands.{IsBase, StandsWith};
 ghost use Rattle.mt_workflow.specs.Workflows.{live_of};
 ghost use Rattle.mt_site.specs.Owed.{owed_to};
 
@@ -13,9 +13,9 @@ use mt_laws::{no_limit_is_passed, parts_are_apart};
 use mt_workflow::Workflow;
 
 /// A core has 16 workflows at most, and what is owed to them is what is owed to the live ones of the state that it stands for.
-pub fn a_core_owes_what_its_state_owes()
-    ensures few { (core : CoreState) → IsCore core → length core.workflows ≤ most_workflows }
-    ensures same { (scopes : List Scope) (p : Plain) (core : CoreState) → StandsWith p scopes core → owed_to core.workflows ≡ owed p }
+pub fn a_base_owes_what_its_state_owes()
+    ensures few { (core : BaseState) → IsBase core → length core.workflows ≤ most_workflows }
+    ensures same { (scopes : List Scope) (p : Plain) (core : BaseState) → StandsWith p scopes core → owed_to core.workflows ≡ owed p }
 {
     no_limit_is_passed();
     parts_are_apart();

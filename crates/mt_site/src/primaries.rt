@@ -1,7 +1,7 @@
 //! What is true of all primaries.
 ghost use Rattle.std.specs.Prelude.{◌<◌, List, ℕ, length, slice_index_or};
 ghost use Rattle.mt_primary.specs.Primary.{IsPrimary, empty_primary};
-ghost use Rattle.mt_primaries.specs.Primaries.{primary_of};
+ghost use Rattle.mt_primary.specs.Primaries.{primary_of};
 
 use crate::Primaries;
 use mt_primary::Primary;
@@ -12,7 +12,7 @@ fn each_is_one(primaries: &[Primary])
     ensures { (n : ℕ) → n < length primaries.now → IsPrimary (slice_index_or primaries.now n empty_primary) }
 {
     for index in 0..primaries.len() {
-        primaries[index].what_holds();
+        primaries[index].facts();
     }
 }
 
@@ -23,5 +23,5 @@ pub(crate) fn each_is_a_primary(alloc: Global, primaries: &Primaries)
     for place in 0..primaries.len() {
         each_is_one(primaries.all(place));
     }
-    Primary::new(alloc).what_holds();
+    Primary::new(alloc).facts();
 }

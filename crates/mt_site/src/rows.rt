@@ -2,16 +2,16 @@
 ghost use Rattle.std.specs.Prelude.{◌≡◌};
 ghost use Rattle.mt_event.specs.Reasons.{done_by};
 ghost use Rattle.mt_model.specs.Topology.{TopologyState};
-ghost use Rattle.mt_site_state.specs.ByHand.{read_at};
-ghost use Rattle.mt_primaries.specs.Primaries.{shards_at};
+ghost use Rattle.mt_stands.specs.ByHand.{read_at};
+ghost use Rattle.mt_primary.specs.Primaries.{shards_at};
 ghost use Rattle.mt_site.specs.Applies.{WritesAndPurges};
 ghost use Rattle.mt_site.specs.ByHand.{read_from, refusal_by_primary};
 
 use crate::{Primaries, Workflows};
 use mt_event::Reason;
 use mt_model::{Op, PrimaryFault};
+use mt_moves::purge_whole;
 use mt_names::{KeyspaceName, TableName, TabletType, Value};
-use mt_site_workflows::purge_whole;
 
 /// Where a keyspace may stand among the others, and where a table may stand in its primaries. Nothing is promised of either: there they
 /// are looked for first.

@@ -3,7 +3,7 @@ ghost use Rattle.std.specs.Prelude.{◌≡◌, IfOk, OnErr, map};
 ghost use Rattle.mt_event.specs.Events.{answer_from, event_of};
 ghost use Rattle.mt_site.specs.Headline.{KeepsTheHeadline};
 ghost use Rattle.mt_site.specs.Runs.{Runs};
-ghost use Rattle.mt_site.specs.Stood.{IsSiteWith};
+ghost use Rattle.mt_site.specs.Stood.{IsCoreWith};
 
 use crate::Site;
 use mt_event::{Event, Refusal, Reply};
@@ -29,7 +29,7 @@ pub fn run_events<W: Asks>(
     ensures runs { IfOk result (λ answers. Runs (W.scopes site.old.watchers) site.old.core events.now answers.items site.new.core) }
     ensures headline { IfOk result (λ answers. KeepsTheHeadline (W.scopes site.old.watchers) site.old.core (map event_of events.now) (map answer_from answers.items) site.new.core) }
     ensures stopped { OnErr result (site.new.core ≡ site.old.core) }
-    ensures stood { IsSiteWith (W.scopes site.old.watchers) site.old.core → IsSiteWith (W.scopes site.new.watchers) site.new.core }
+    ensures stood { IsCoreWith (W.scopes site.old.watchers) site.old.core → IsCoreWith (W.scopes site.new.watchers) site.new.core }
 {
     every_run_keeps_the_headline();
     let Ok(mut answers) = Vec::with_capacity(alloc, events.len()) else {

@@ -1,7 +1,7 @@
 //! The shards of a workflow's target, by their ranges.
 ghost use Rattle.std.specs.Prelude.{◌≡◌, position};
 ghost use Rattle.mt_names.specs.Shards.{same_range};
-ghost use Rattle.mt_site_state.specs.Core.{workflow_at};
+ghost use Rattle.mt_stands.specs.Base.{workflow_at};
 ghost use Rattle.mt_site.specs.Shards.{shard_from, shard_in, shard_or_none};
 
 use crate::Workflows;
@@ -39,7 +39,7 @@ pub(crate) fn place_of(
 ) -> Result<u8, Refusal>
     ensures { shard_from result ≡ shard_in (workflow_at workflows.now.entries name.now) range.now }
 {
-    match mt_few::get(workflows, name) {
+    match workflows.get(name) {
         None => Err(Refusal::Other(Reason::NoWorkflow)),
         Some(workflow) => told(place_in(workflow, range)),
     }

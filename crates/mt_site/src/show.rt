@@ -3,8 +3,8 @@ ghost use Rattle.std.specs.Prelude.{◌≡◌, ◌<◌, map, true, is_some, leng
 ghost use Rattle.mt_event.specs.Events.{lane_from, lanes_from, lent_shown, shown_stream_from};
 ghost use Rattle.mt_plain.specs.Events.{forward};
 ghost use Rattle.mt_workflow.specs.Workflows.{WorkflowState, slot_of};
-ghost use Rattle.mt_site_state.specs.Core.{workflow_at};
-ghost use Rattle.mt_site_state.specs.Workflows.{lane_by, show_at, shown_by, slot_from};
+ghost use Rattle.mt_stands.specs.Base.{workflow_at};
+ghost use Rattle.mt_stands.specs.Workflows.{lane_by, show_at, shown_by, slot_from};
 ghost use Rattle.mt_site.specs.Show.{shown_answer};
 
 use crate::Workflows;
@@ -85,7 +85,7 @@ pub(crate) fn show<'a>(workflows: &'a Workflows, name: &WorkflowName) -> Result<
         → (shard : ℕ) → shard < length w.lanes → is_some (slot_of w shard forward) ≡ true }
     ensures { shown_answer result ≡ show_at (workflow_at workflows.now.entries name.now) }
 {
-    match mt_few::get(workflows, name) {
+    match workflows.get(name) {
         None => Err(Reason::NoWorkflow),
         Some(workflow) => Ok(shown(workflow)),
     }

@@ -6,7 +6,7 @@ ghost use Rattle.mt_event.specs.Reasons.{reason_from};
 ghost use Rattle.mt_model.specs.declared.entries.Scope.{Scope};
 ghost use Rattle.mt_plain.specs.Drive as plain;
 ghost use Rattle.mt_plain.specs.Plain.{Plain};
-ghost use Rattle.mt_site_state.specs.Ways.{SiteStands};
+ghost use Rattle.mt_stands.specs.Ways.{CoreStands};
 ghost use Rattle.mt_workflow.specs.Workflows.{slot_of, stream_name, way_from};
 ghost use Rattle.mt_site.specs.Drives.{Turns, end_from, heard_from, turn_from};
 
@@ -68,7 +68,7 @@ impl End {
 
 /// The way that is open on a workflow.
 fn way_of(core: &Core, workflow: &WorkflowName) -> Option<Way>
-    ensures { (p : Plain) (scopes : List Scope) → SiteStands p scopes core.now → option_map way_from result ≡ plain.way_of p workflow.now }
+    ensures { (p : Plain) (scopes : List Scope) → CoreStands p scopes core.now → option_map way_from result ≡ plain.way_of p workflow.now }
 {
     core.workflow(workflow)?.way()
 }
@@ -105,7 +105,7 @@ fn position_in(workflow: &Workflow, stream: Slot, shard: u8) -> Position
 
 /// So of a live workflow.
 fn position_of(core: &Core, workflow: &WorkflowName, stream: Slot, shard: u8) -> Position
-    ensures { (p : Plain) (scopes : List Scope) → SiteStands p scopes core.now → result ≡ plain.position_of p workflow.now (stream_name stream) shard }
+    ensures { (p : Plain) (scopes : List Scope) → CoreStands p scopes core.now → result ≡ plain.position_of p workflow.now (stream_name stream) shard }
 {
     match core.workflow(workflow) {
         None => 0,
@@ -164,7 +164,7 @@ fn step<W: Asks>(core: &mut Core, watchers: &W, workflow: &WorkflowName, tries: 
 
 /// How many shards the target of a workflow has.
 fn shards_of(core: &Core, workflow: &WorkflowName) -> u8
-    ensures { (p : Plain) (scopes : List Scope) → SiteStands p scopes core.now → result ≡ plain.lanes_of p workflow.now }
+    ensures { (p : Plain) (scopes : List Scope) → CoreStands p scopes core.now → result ≡ plain.lanes_of p workflow.now }
 {
     match core.workflow(workflow) {
         None => 0,

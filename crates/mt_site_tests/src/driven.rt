@@ -9,7 +9,7 @@ use mt_names::{
     WorkflowName, table_list,
 };
 use mt_site::{Command, Driven, Refusal, Site, drive};
-use mt_watch::{Asks, Watchers};
+use mt_watch::Watchers;
 use mt_workflow::Slot;
 use std::alloc::Global;
 use std::test::Fail;
@@ -61,24 +61,14 @@ fn row(site: &Site<Watchers>) -> Result<Option<Value>, NameFault> {
     Ok(told.unwrap_or(None))
 }
 
-/// Switches all traffic, or reverses it. (It is generic in the watchers, so that two statements of a whole drive are never compared turn by
-/// turn, which would take the checker too many steps.)
-pub(crate) fn drive_all<W: Asks>(
-    site: &mut Site<W>,
-    name: &WorkflowName,
-    back: bool,
-) -> Result<Driven, Refusal> {
-    drive(site, name, TypeSet::ALL, back)
-}
-
 /// Whether all traffic is switched, and the row is there; whether it isn't switched twice, and can't be cancelled; whether it is reversed.
 fn switches(site: &mut Site<Watchers>, name: &WorkflowName) -> Result<[bool; 5], NameFault> {
     Ok([
-        drive_all(site, name, false) == Ok(Driven::Done),
+        drive(site, name, TypeSet::ALL, false) == Ok(Driven::Done),
         row(site)? == Some(value_of("a")),
-        drive_all(site, name, false) == Err(Refusal::Other(Reason::NothingToSwitch)),
+        drive(site, name, TypeSet::ALL, false) == Err(Refusal::Other(Reason::NothingToSwitch)),
         site.command(Command::Cancel(name)) == Err(Reason::TrafficSwitched),
-        drive_all(site, name, true) == Ok(Driven::Done),
+        drive(site, name, TypeSet::ALL, true) == Ok(Driven::Done),
     ])
 }
 

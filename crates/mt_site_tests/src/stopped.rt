@@ -1,11 +1,10 @@
 //! Whole switches and reversals that a watcher refuses once, behind their journal: they stop, can't be undone, and are finished by steps.
 
-use crate::driven::drive_all;
 use crate::watched::{Refuses, Watch, watchers_of};
 use mt_acts::{Act, Answer, Ask, Played, play_on};
 use mt_event::Reason;
 use mt_names::{TypeSet, WorkflowName};
-use mt_site::{Driven, Refusal, Site};
+use mt_site::{Driven, Refusal, Site, drive};
 use mt_stream::StreamState;
 use mt_watch::Watchers;
 use mt_workflow::Slot;
@@ -117,13 +116,13 @@ static STOPS: [Stop; 2] = [
 
 /// Whether all traffic is switched.
 fn is_switched(site: &mut Site<Watchers>, name: &WorkflowName) -> bool {
-    drive_all(site, name, false) == Ok(Driven::Done)
+    drive(site, name, TypeSet::ALL, false) == Ok(Driven::Done)
 }
 
 /// Whether a drive stops with eight steps done, since the watcher refuses.
 fn stops(site: &mut Site<Watchers>, name: &WorkflowName, stop: &Stop) -> bool {
     let refusal = Refusal::Other(Reason::WatcherRefused(stop.watcher));
-    drive_all(site, name, stop.back) == Ok(Driven::Stopped(refusal, 8))
+    drive(site, name, TypeSet::ALL, stop.back) == Ok(Driven::Stopped(refusal, 8))
 }
 
 /// The first part that goes otherwise, at a site that stands as it does.

@@ -9,7 +9,7 @@ use Rattle.mt_plain.specs.Plain.{Copied, up_to, ended}
 use Rattle.mt_names.specs.Shards.{KeyRange}
 use Rattle.mt_plain.specs.Slots.{copied_after}
 use Rattle.mt_primary.specs.Primary.{PrimaryState}
-use Rattle.mt_log.specs.Log.{has_room}
+use Rattle.mt_store.specs.Log.{has_room}
 use Rattle.mt_primary.specs.Writes.{IsPut, RowPut}
 use Rattle.mt_stream.specs.declared.fault.StreamFault.{StreamFault}
 use Rattle.mt_stream.specs.Advance.{places, room_in, rows_left}

@@ -9,7 +9,7 @@ use Rattle.mt_names.specs.Names.{same_text}
 use Rattle.mt_names.proofs.SameLemmas.{same_text_decides}
 use Rattle.mt_model.specs.declared.rows.RowChange.{RowChange}
 use Rattle.mt_model.specs.Rows.{Row, RowValue, is_change_of, row_with}
-use Rattle.mt_log.proofs.ReadLemmas.{past_more}
+use Rattle.mt_store.proofs.ReadLemmas.{past_more}
 use Rattle.mt_names.specs.Shards.{KeyRange, holds}
 use Rattle.mt_primary.proofs.LeadLemmas.{entries_on}
 use Rattle.mt_plain.specs.Plain.{Copied, up_to, ended, among}

@@ -9,7 +9,7 @@ use Rattle.mt_model.specs.declared.rows.RowChange.{RowChange}
 use Rattle.mt_model.specs.Limits.{longest_log}
 use Rattle.mt_model.specs.Rows.{Row}
 use Rattle.mt_primary.specs.Primary.{PrimaryState, TableState, end_of, has_table, made_at, row_at, table_at}
-use Rattle.mt_log.specs.Log.{has_room, log_end, with_entry}
+use Rattle.mt_store.specs.Log.{has_room, log_end, with_entry}
 use Rattle.mt_primary.specs.Writes.{IsPut, RowPut, change_by, row_after_put}
 use Rattle.mt_stream.specs.Advance.{room_in}
 use Rattle.mt_stream.specs.Puts.{PutsMade, RowsByKey, changes_by, rows_after_put, with_entries}

@@ -8,7 +8,7 @@ use Rattle.mt_model.specs.declared.rows.RowChange.{RowChange}
 use Rattle.mt_names.specs.Shards.{KeyRange}
 use Rattle.mt_plain.specs.Slots.{readable}
 use Rattle.mt_primary.specs.Primary.{PrimaryState}
-use Rattle.mt_log.specs.Log.{has_room}
+use Rattle.mt_store.specs.Log.{has_room}
 use Rattle.mt_primary.specs.Writes.{put_of}
 use Rattle.mt_stream.specs.declared.fault.StreamFault.{StreamFault}
 use Rattle.mt_stream.specs.Advance.{is_written, room_in}

@@ -10,7 +10,7 @@ use Rattle.mt_plain.specs.Events.{StreamState, running, stopped, frozen}
 use Rattle.mt_plain.specs.Plain.{Copied}
 use Rattle.mt_plain.specs.Slots.{copied_after, readable}
 use Rattle.mt_plain.specs.Writes.{in_range, is_applied}
-use Rattle.mt_log.specs.Log.{has_room}
+use Rattle.mt_store.specs.Log.{has_room}
 use Rattle.mt_primary.specs.Primary.{PrimaryState, end_of, table_at}
 use Rattle.mt_primary.specs.Writes.{RowPut, put_of}
 use Rattle.mt_stream.specs.declared.fault.StreamFault.{StreamFault}

@@ -10,7 +10,7 @@ use Rattle.mt_plain.specs.Slots.{copied_after, readable}
 use Rattle.mt_primary.specs.Primary.{PrimaryState}
 use Rattle.mt_primary.specs.Reads.{is_above}
 use Rattle.mt_primary.specs.Writes.{IsPut, RowPut, put_of}
-use Rattle.mt_log.specs.Log.{has_room}
+use Rattle.mt_store.specs.Log.{has_room}
 use Rattle.mt_stream.specs.declared.copying.LeftRow.{LeftRow}
 use Rattle.mt_stream.specs.declared.fault.StreamFault.{StreamFault}
 use Rattle.mt_stream.specs.declared.fault.StreamFault.TheVariants.{Memory, LogFull}

@@ -2,7 +2,7 @@
 use Rattle.std.specs.Prelude.{◌≡◌, ℕ, List, [], ◌∷◌, ◌++◌, fold}
 use Rattle.mt_model.specs.declared.rows.RowChange.{RowChange}
 use Rattle.mt_model.specs.Rows.{Row}
-use Rattle.mt_log.specs.Log.{LogState}
+use Rattle.mt_store.specs.Log.{LogState}
 use Rattle.mt_primary.specs.Primary.{PrimaryState, is_denied_at, made_at, row_at}
 use Rattle.mt_primary.specs.Writes.{RowPut, row_after_put}
 

@@ -9,9 +9,9 @@ ghost use Rattle.mt_stream.specs.Streams.{IsPlaced, copied_from};
 use crate::fault::StreamFault;
 use crate::following::put_row;
 use crate::stream::CopiedRange;
+use mt_model::SharedValue;
 use mt_names::{KeyRange, TableName};
 use mt_primary::Primary;
-use mt_shared::SharedValue;
 
 /// A row that is left to copy, which the source lends.
 #[derive(Clone, Copy)]
@@ -57,7 +57,7 @@ fn first_in<'a>(
 ) -> Option<(u64, &'a SharedValue)>
     ensures { option_map (λ row. (row.0, row.1.now)) result ≡ next_in source.now keys.now table.now behind }
 {
-    source.what_holds();
+    source.facts();
     let from = behind_start(keys.first_key(), behind);
     match source.lent_row_after_placed(at, table, from) {
         Some((key, value)) if keys.holds(key) => Some((key, value)),
@@ -77,7 +77,7 @@ fn first_left<'a>(
     requires placed { IsPlaced tables.now range }
     ensures { IsFirstLeft source.now keys.now tables.now (copied_from tables.now range) result }
 {
-    source.what_holds();
+    source.facts();
     let (start, mut behind) = first_behind(tables, range);
     for place in start..tables.len() {
         if let Some((key, value)) = first_in(keys, source, at, &tables[place], behind) {

@@ -5,7 +5,7 @@ ghost use Rattle.std.specs.Option.{option_copied};
 ghost use Rattle.mt_plain.specs.Plain.{among};
 ghost use Rattle.mt_names.specs.Shards.{holds};
 ghost use Rattle.mt_plain.specs.Writes.{is_applied, place_of};
-ghost use Rattle.mt_log.specs.Log.{entry_in};
+ghost use Rattle.mt_store.specs.Log.{entry_in};
 ghost use Rattle.mt_primary.specs.Primary.{end_of, has_table};
 ghost use Rattle.mt_primary.specs.Reads.{entries_from};
 ghost use Rattle.mt_stream.specs.Advance.{is_written};
@@ -14,9 +14,9 @@ ghost use Rattle.mt_stream.specs.Streams.{IsPlaced, copied_from};
 
 use crate::fault::StreamFault;
 use crate::stream::CopiedRange;
+use mt_model::SharedValue;
 use mt_names::{KeyRange, Position, TableName};
 use mt_primary::{Primary, PrimaryFault, RowChange};
-use mt_shared::SharedValue;
 
 /// Which entries are written at the sink: those about a key in the range whose row is of one of the tables, and in the copied
 /// range.

@@ -199,7 +199,7 @@ impl Stream {
         ensures within { self.new.position ≤ end_of source.now }
         ensures follows { FollowsSource self.old source.now sink.old → FollowsSource self.new source.now sink.new }
     {
-        source.what_holds();
+        source.facts();
         if let Some(fault) = self.refusal(at) {
             return Err(fault);
         }

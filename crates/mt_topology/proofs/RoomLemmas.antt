@@ -12,6 +12,7 @@ use Rattle.mt_names.specs.Names.{same_text}
 use Rattle.mt_names.specs.Same.{same_key}
 use Rattle.mt_names.proofs.EntryLemmas.{other_from, same_itself}
 use Rattle.mt_names.proofs.SameLemmas.{same_key_decides, same_text_decides}
+use Rattle.mt_names.proofs.BoolLemmas.{both}
 use Rattle.mt_model.specs.declared.entries.EntryKey.{EntryKey}
 use Rattle.mt_model.specs.declared.entries.EntryKey.TheVariants as about
 use Rattle.mt_model.specs.declared.faults.TopologyFault.{TopologyFault}
@@ -200,10 +201,6 @@ each_is source target before (table ∷ tables) =
     (subst (λ l. AllByRecursion (IsOf source target l) (part_keys source target tables)) (append_assoc before (table ∷ []) tables) (each_is source target (before ++ table ∷ []) tables))
 
 -- ---- the test of a part's room
-
-both : (a b : Bool) → (a && b) ≡ true → (a ≡ true) × (b ≡ true)
-both true b e = (refl, e)
-both false b e = absurd (true≢false (sym e))
 
 within : (most n : ℕ) → not (nat_lt most n) ≡ true → n ≤ most
 within most n e = by (nat_lt most n) refl e

@@ -5,6 +5,7 @@ use Rattle.std.proofs.lemmas.Bool.Decides.{Decides-eqb}
 use Rattle.std.proofs.lemmas.List.{get_or_past, map-append}
 use Rattle.std.proofs.lemmas.List.Sums.{sum_by-cons, sum_by_push}
 use Rattle.std.specs.Map.{lookup}
+use Rattle.mt_names.proofs.BoolLemmas.{both}
 use Rattle.mt_workers.specs.Advances.{Answer}
 use Rattle.mt_workers.specs.Collected.{Adds, Collected, HasFirst, IsCollected, IsWhole, collected_in, due, is_of, lines_of, messages_in, times, with_message}
 use Rattle.mt_workers.specs.declared.message.Message.{Message}
@@ -68,10 +69,6 @@ absent rs w l none = by (lookup (key w l) rs) (counted w l rs)
 
 messages-push : (rs : Replies) (w l : ℕ) (reply : Answer) → messages_in (rs ++ ((w, l), reply) ∷ []) ≡ messages_in rs ++ message w l reply ∷ []
 messages-push rs w l reply = map-append (λ entry. message entry.0.0 entry.0.1 entry.1) rs (((w, l), reply) ∷ [])
-
-both : (a b : Bool) → (a && b) ≡ true → (a ≡ true) × (b ≡ true)
-both true b is = (refl, is)
-both false b is = absurd cc
 
 -- of a line that is waited for and wasn't there
 pub kept_more : (lines : List ℕ) (rs new : Replies) (w l : ℕ) (reply : Answer) → new ≡ rs ++ ((w, l), reply) ∷ [] → IsCollected (collected_in lines rs)

@@ -1,6 +1,6 @@
 //! A desk for a test: a workflow is created and copied.
 ghost use Rattle.std.specs.Prelude.{◌≡◌, IfOk, IfSome};
-ghost use Rattle.mt_site.specs.Stood.{IsSiteWith};
+ghost use Rattle.mt_site.specs.Stood.{IsCoreWith};
 ghost use Rattle.mt_watch.specs.Notices.{notice_of};
 
 use crate::sharded::{Sharded, over_shards};
@@ -81,7 +81,7 @@ fn events(shards: ShardList) -> Result<[Event; 6], NameFault> {
 
 /// Whether each of these events is done.
 fn applies<W: Asks>(site: &mut Site<W>, events: &[Event]) -> bool
-    ensures { IsSiteWith (W.scopes site.old.watchers) site.old.core → IsSiteWith (W.scopes site.new.watchers) site.new.core }
+    ensures { IsCoreWith (W.scopes site.old.watchers) site.old.core → IsCoreWith (W.scopes site.new.watchers) site.new.core }
 {
     for event in events {
         if site.apply(event).is_err() {
@@ -93,7 +93,7 @@ fn applies<W: Asks>(site: &mut Site<W>, events: &[Event]) -> bool
 
 /// The controller behind the events before a trial.
 fn site_of<W: Asks + Drop>(alloc: Global, watchers: W, trial: Trial) -> Option<Site<W>>
-    ensures { IfSome result (λ site. IsSiteWith (W.scopes site.watchers) site.core) }
+    ensures { IfSome result (λ site. IsCoreWith (W.scopes site.watchers) site.core) }
 {
     let Ok(shards) = target_shards(trial) else {
         return None;
@@ -186,7 +186,7 @@ fn at_a_desk<D: DeskName + Send + Sync, W: Asks + Drop + Send, R: Threads + Wait
     requires list { opened.seen.book ≡ D.book }
     requires opening { site.core ≡ D.opening }
     requires scopes { W.scopes site.watchers ≡ D.scopes }
-    requires stood { IsSiteWith D.scopes site.core }
+    requires stood { IsCoreWith D.scopes site.core }
 {
     let opened: Result<Desk<D, W, &R>, DeskFault> = Desk::open(alloc, rt, blank, opened, site);
     let Ok(desk) = opened else {

@@ -10,6 +10,7 @@ use Rattle.mt_names.specs.declared.types.TabletType.{TabletType}
 use Rattle.mt_names.specs.declared.types.TabletType.TheVariants.{Primary, Replica, Rdonly}
 use Rattle.mt_names.specs.Names.{same_text}
 use Rattle.mt_names.proofs.SameLemmas.{same_text_decides}
+use Rattle.mt_names.proofs.BoolLemmas.{both, or-true}
 use Rattle.mt_model.specs.declared.entries.EntryKey.{EntryKey}
 use Rattle.mt_model.specs.declared.entries.EntryKey.TheVariants as about
 use Rattle.mt_model.specs.Part.{keys_of_name, part_keys, table_part_keys, table_rule_keys}
@@ -20,15 +21,6 @@ abbrev pub table_of : EntryKey → List ℕ
 table_of (about.Rule key) = key.table
 table_of (about.Denied keyspace table) = table
 table_of (about.Present keyspace table) = table
-
-pub both : (a b : Bool) → (a && b) ≡ true → (a ≡ true) × (b ≡ true)
-both true true e = (refl, refl)
-both true false e = absurd cc
-both false b e = absurd cc
-
-or-true : (b : Bool) → (b || true) ≡ true
-or-true true = refl
-or-true false = refl
 
 -- ---- a key that is counted to it is one of its keys
 
@@ -121,8 +113,11 @@ counted w (table ∷ tables) all =
     (plain, (plain, (plain, (plain, (at_source, (at_source, (at_source, (at_source, (at_target, (at_target, (at_target, (at_target, (at_source, (at_target, (there, tt))))))))))))))))
     (counted w tables (All-tail (λ t. moves w t ≡ true) table tables all))
 
+pub each_moved : (w : Live) → All (λ t. moves w t ≡ true) w.tables
+each_moved w i d inside = let itself = All-contains_itself w.tables i d inside in among-there w.tables (slice_index_or w.tables i d) itself.0 itself.1 itself.2
+
 pub all_counted : (w : Live) → All (λ key. has_part w key ≡ true) (part_keys w.source w.target w.tables)
-all_counted w = counted w w.tables (λ i d inside. let itself = All-contains_itself w.tables i d inside in among-there w.tables (slice_index_or w.tables i d) itself.0 itself.1 itself.2)
+all_counted w = counted w w.tables (each_moved w)
 
 pub part_of : (w : Live) (key : EntryKey) → Contains (part_keys w.source w.target w.tables) key → has_part w key ≡ true
 part_of w key = All-contains (λ k. has_part w k ≡ true) (part_keys w.source w.target w.tables) key (all_counted w)

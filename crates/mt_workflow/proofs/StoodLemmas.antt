@@ -17,7 +17,8 @@ use Rattle.mt_workflow.specs.declared.fault.WorkflowFault.TheVariants.{SameKeysp
 use Rattle.mt_workflow.specs.Creates.{conflict_of, create_refusal, is_denied_by_hand, is_sharded, refuse_if, table_refusal, tables_refusal}
 use Rattle.mt_workflow.specs.Workflows.{IsKept, WorkflowState, keys_of_rules, kept_of, live_of}
 use Rattle.mt_workflow.proofs.KeptLemmas.{is_rule, rules-of_part}
-use Rattle.mt_workflow.proofs.MemberLemmas.{both, all_counted, in_map, rule_in_part}
+use Rattle.mt_names.proofs.BoolLemmas.{both}
+use Rattle.mt_workflow.proofs.MemberLemmas.{all_counted, in_map, rule_in_part}
 
 -- ---- the rules
 

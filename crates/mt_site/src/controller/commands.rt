@@ -3,16 +3,16 @@ ghost use Rattle.std.specs.Prelude.{◌≡◌, List, [], ◌∷◌, OnErr, optio
 ghost use Rattle.mt_event.specs.Reasons.{done_by};
 ghost use Rattle.mt_names.specs.Shards.{AreCuts};
 ghost use Rattle.mt_plain.specs.Events as plain;
-ghost use Rattle.mt_site_state.specs.ByHand.{AddsKeyspace, AddsTable, EditsRule};
-ghost use Rattle.mt_site_state.specs.Purges.{IsPurged};
-ghost use Rattle.mt_site_state.specs.Switching.{BeginsReverse, BeginsSwitch, Completes, StepsWorkflow, UndoesWorkflow};
-ghost use Rattle.mt_site_state.specs.Ways.{SiteSteps};
-ghost use Rattle.mt_site_state.specs.Workflows.{Cancels};
+ghost use Rattle.mt_stands.specs.ByHand.{AddsKeyspace, AddsTable, EditsRule};
+ghost use Rattle.mt_stands.specs.Purges.{IsPurged};
+ghost use Rattle.mt_stands.specs.Switching.{BeginsReverse, BeginsSwitch, Completes, StepsWorkflow, UndoesWorkflow};
+ghost use Rattle.mt_stands.specs.Ways.{CoreSteps};
+ghost use Rattle.mt_stands.specs.Workflows.{Cancels};
 ghost use Rattle.mt_site.specs.Applies.{Applies, AppliesAndPurges};
 ghost use Rattle.mt_site.specs.Commands.{event_of_command};
 ghost use Rattle.mt_site.specs.GivenUp.{CanBeGivenUp};
 ghost use Rattle.mt_site.specs.Headline.{KeepsTheHeadline};
-ghost use Rattle.mt_site.specs.Stood.{IsSiteWith};
+ghost use Rattle.mt_site.specs.Stood.{IsCoreWith};
 
 use crate::applied::an_applied_event_steps;
 use crate::by_hand;
@@ -21,18 +21,16 @@ use crate::given_up::a_move_can_be_given_up;
 use crate::primaries::each_is_a_primary;
 use mt_event::{Event, Reason};
 use mt_laws::every_run_keeps_the_headline;
+use mt_moves::{begin_reverse, begin_switch, cancel, complete, step, undo};
 use mt_names::{KeyspaceName, RuleKey, RuleTarget, ShardList, TableName, TypeSet, WorkflowName};
-use mt_site_events::{
-    a_purged_core_stands, each_shard_of_a_core_has_a_primary,
-    primaries_of_a_core_have_the_tables_of_its_topology, what_is_purged_stays_purged,
-    workflows_of_a_core_know_their_shards, workflows_of_a_core_stand_in_place,
+use mt_refinement::{
+    a_begin_steps, a_complete_steps, a_core_stays_one, a_purged_base_stands, a_purged_core_stands,
+    a_step_steps, an_undo_steps, each_open_way_has_a_record, each_shard_of_a_base_has_a_primary,
+    events_by_hand_step_and_leave_the_ways, events_on_workflows_step_and_leave_the_ways,
+    primaries_of_a_base_have_the_tables_of_its_topology, what_a_step_looks_at_is_kept,
+    what_is_purged_stays_purged, workflows_of_a_base_know_their_shards,
+    workflows_of_a_base_stand_in_place,
 };
-use mt_site_ways::{
-    a_begin_steps, a_complete_steps, a_purged_site_stands, a_site_stays_one, a_step_steps,
-    an_undo_steps, each_open_way_has_a_record, events_by_hand_step_and_leave_the_ways,
-    events_on_workflows_step_and_leave_the_ways, what_a_step_looks_at_is_kept,
-};
-use mt_site_workflows::{begin_reverse, begin_switch, cancel, complete, step, undo};
 use mt_watch::Asks;
 
 /// An event that is answered by nothing but that it is done, and refused without a name, with its names lent: see `Event`, which has
@@ -93,15 +91,15 @@ impl Core {
     /// the core as it was. (Vitess: MoveTables)
     pub fn command<W: Asks>(&mut self, watchers: &W, command: Command<'_>) -> Result<(), Reason>
         ensures applies { AppliesAndPurges (W.scopes watchers.now) (W.may_answer watchers.now) self.old (event_of_command command.entry) (done_by result) self.new }
-        ensures steps { SiteSteps (W.scopes watchers.now) self.old (event_of_command command.entry) (done_by result) self.new }
+        ensures steps { CoreSteps (W.scopes watchers.now) self.old (event_of_command command.entry) (done_by result) self.new }
         ensures unchanged { OnErr result (self.new ≡ self.old) }
         ensures given_up { CanBeGivenUp self.old (event_of_command command.entry) → done_by result ≡ plain.done }
         ensures headline { KeepsTheHeadline (W.scopes watchers.now) self.old (event_of_command command.entry ∷ []) (done_by result ∷ []) self.new }
-        ensures stood { IsSiteWith (W.scopes watchers.now) self.old → IsSiteWith (W.scopes watchers.now) self.new }
-        ensures purged { IsPurged self.old.core → IsPurged self.new.core }
+        ensures stood { IsCoreWith (W.scopes watchers.now) self.old → IsCoreWith (W.scopes watchers.now) self.new }
+        ensures purged { IsPurged self.old.base → IsPurged self.new.base }
     {
+        a_purged_base_stands();
         a_purged_core_stands();
-        a_purged_site_stands();
         what_is_purged_stays_purged();
         a_move_can_be_given_up(watchers);
         every_run_keeps_the_headline();
@@ -117,7 +115,7 @@ impl Core {
     /// Does what a command asks for, and leaves the logs.
     fn do_command<W: Asks>(&mut self, watchers: &W, command: Command<'_>) -> Result<(), Reason>
         ensures applies { Applies (W.scopes watchers.now) (W.may_answer watchers.now) self.old (event_of_command command.entry) (done_by result) self.new }
-        ensures steps { SiteSteps (W.scopes watchers.now) self.old (event_of_command command.entry) (done_by result) self.new }
+        ensures steps { CoreSteps (W.scopes watchers.now) self.old (event_of_command command.entry) (done_by result) self.new }
         ensures unchanged { OnErr result (self.new ≡ self.old) }
     {
         each_is_a_primary(self.alloc, &self.primaries);
@@ -139,14 +137,14 @@ impl Core {
     /// Adds a keyspace without tables: `F30 Exists`, `F27 Full`, `F0 Memory`.
     #[inline(never)]
     fn add_keyspace(&mut self, name: &KeyspaceName, shards: &ShardList) -> Result<(), Reason>
-        ensures does { AddsKeyspace self.old.core name.now shards.now (done_by result) self.new.core }
+        ensures does { AddsKeyspace self.old.base name.now shards.now (done_by result) self.new.base }
         ensures bounds { AreCuts shards.now }
         ensures ways { self.new.ways ≡ self.old.ways }
         ensures unchanged { OnErr result (self.new ≡ self.old) }
     {
-        each_shard_of_a_core_has_a_primary();
-        primaries_of_a_core_have_the_tables_of_its_topology();
-        a_site_stays_one();
+        each_shard_of_a_base_has_a_primary();
+        primaries_of_a_base_have_the_tables_of_its_topology();
+        a_core_stays_one();
         events_by_hand_step_and_leave_the_ways();
         shards.facts();
         by_hand::add_keyspace(&mut self.topology, &mut self.primaries, name, shards)
@@ -155,13 +153,13 @@ impl Core {
     /// Adds a table without rows: `F1 NoKeyspace`, `F30 Exists`, `F27 Full`, `F0 Memory`.
     #[inline(never)]
     fn add_table(&mut self, keyspace: &KeyspaceName, table: &TableName) -> Result<(), Reason>
-        ensures does { AddsTable self.old.core keyspace.now table.now (done_by result) self.new.core }
+        ensures does { AddsTable self.old.base keyspace.now table.now (done_by result) self.new.base }
         ensures ways { self.new.ways ≡ self.old.ways }
         ensures unchanged { OnErr result (self.new ≡ self.old) }
     {
-        each_shard_of_a_core_has_a_primary();
-        primaries_of_a_core_have_the_tables_of_its_topology();
-        a_site_stays_one();
+        each_shard_of_a_base_has_a_primary();
+        primaries_of_a_base_have_the_tables_of_its_topology();
+        a_core_stays_one();
         events_by_hand_step_and_leave_the_ways();
         by_hand::add_table(&mut self.topology, &mut self.primaries, keyspace, table)
     }
@@ -169,11 +167,11 @@ impl Core {
     /// Sets the rule of a key, or takes it away: `F22 RuleOwned`, `F27 Full`, `F0 Memory`.
     #[inline(never)]
     fn edit_rule(&mut self, key: &RuleKey, target: Option<&RuleTarget>) -> Result<(), Reason>
-        ensures does { EditsRule self.old.core key.now (option_copied target.entry) (done_by result) self.new.core }
+        ensures does { EditsRule self.old.base key.now (option_copied target.entry) (done_by result) self.new.base }
         ensures ways { self.new.ways ≡ self.old.ways }
         ensures unchanged { OnErr result (self.new ≡ self.old) }
     {
-        a_site_stays_one();
+        a_core_stays_one();
         events_by_hand_step_and_leave_the_ways();
         by_hand::edit_rule(
             &mut self.topology,
@@ -185,12 +183,12 @@ impl Core {
 
     /// Cancels a workflow: `F7 NoWorkflow`, `F13 UnderWay`, `F20 TrafficSwitched`. It takes no memory, and asks nobody.
     fn cancel(&mut self, name: &WorkflowName) -> Result<(), Reason>
-        ensures does { Cancels self.old.core name.now (done_by result) self.new.core }
+        ensures does { Cancels self.old.base name.now (done_by result) self.new.base }
         ensures ways { self.new.ways ≡ self.old.ways }
         ensures unchanged { OnErr result (self.new ≡ self.old) }
     {
-        workflows_of_a_core_stand_in_place();
-        a_site_stays_one();
+        workflows_of_a_base_stand_in_place();
+        a_core_stays_one();
         events_on_workflows_step_and_leave_the_ways();
         each_is_a_primary(self.alloc, &self.primaries);
         cancel(
@@ -207,8 +205,8 @@ impl Core {
         ensures does { BeginsSwitch self.old name.now types (done_by result) self.new }
         ensures unchanged { OnErr result (self.new ≡ self.old) }
     {
-        a_site_stays_one();
-        workflows_of_a_core_stand_in_place();
+        a_core_stays_one();
+        workflows_of_a_base_stand_in_place();
         each_open_way_has_a_record();
         a_begin_steps();
         begin_switch(
@@ -226,8 +224,8 @@ impl Core {
         ensures does { BeginsReverse self.old name.now types (done_by result) self.new }
         ensures unchanged { OnErr result (self.new ≡ self.old) }
     {
-        a_site_stays_one();
-        workflows_of_a_core_stand_in_place();
+        a_core_stays_one();
+        workflows_of_a_base_stand_in_place();
         each_open_way_has_a_record();
         a_begin_steps();
         begin_reverse(
@@ -246,11 +244,11 @@ impl Core {
         ensures does { StepsWorkflow self.old (W.scopes watchers.now) (W.may_answer watchers.now) name.now at (done_by result) self.new }
         ensures unchanged { OnErr result (self.new ≡ self.old) }
     {
-        a_site_stays_one();
-        workflows_of_a_core_stand_in_place();
+        a_core_stays_one();
+        workflows_of_a_base_stand_in_place();
         each_open_way_has_a_record();
         what_a_step_looks_at_is_kept();
-        workflows_of_a_core_know_their_shards();
+        workflows_of_a_base_know_their_shards();
         a_step_steps(watchers);
         step(
             self.alloc,
@@ -271,11 +269,11 @@ impl Core {
         ensures does { UndoesWorkflow self.old name.now at (done_by result) self.new }
         ensures unchanged { OnErr result (self.new ≡ self.old) }
     {
-        a_site_stays_one();
-        workflows_of_a_core_stand_in_place();
+        a_core_stays_one();
+        workflows_of_a_base_stand_in_place();
         each_open_way_has_a_record();
         what_a_step_looks_at_is_kept();
-        workflows_of_a_core_know_their_shards();
+        workflows_of_a_base_know_their_shards();
         an_undo_steps(watchers);
         undo(
             &mut self.topology,
@@ -294,10 +292,10 @@ impl Core {
         ensures does { Completes self.old name.now (done_by result) self.new }
         ensures unchanged { OnErr result (self.new ≡ self.old) }
     {
-        a_site_stays_one();
-        workflows_of_a_core_stand_in_place();
-        workflows_of_a_core_know_their_shards();
-        primaries_of_a_core_have_the_tables_of_its_topology();
+        a_core_stays_one();
+        workflows_of_a_base_stand_in_place();
+        workflows_of_a_base_know_their_shards();
+        primaries_of_a_base_have_the_tables_of_its_topology();
         a_complete_steps();
         each_is_a_primary(self.alloc, &self.primaries);
         complete(

@@ -3,13 +3,13 @@ ghost use Rattle.std.specs.Prelude.{◌≡◌, List, [], ◌∷◌, OnErr};
 ghost use Rattle.mt_event.specs.Reasons.{done_by};
 ghost use Rattle.mt_model.specs.declared.entries.Scope.{Scope};
 ghost use Rattle.mt_plain.specs.Events as plain;
-ghost use Rattle.mt_site_state.specs.ByHand.{ReadsRow};
-ghost use Rattle.mt_site_state.specs.Purges.{IsPurged};
-ghost use Rattle.mt_site_state.specs.Ways.{SiteSteps};
+ghost use Rattle.mt_stands.specs.ByHand.{ReadsRow};
+ghost use Rattle.mt_stands.specs.Purges.{IsPurged};
+ghost use Rattle.mt_stands.specs.Ways.{CoreSteps};
 ghost use Rattle.mt_site.specs.Applies.{WritesAndPurges};
 ghost use Rattle.mt_site.specs.ByHand.{read_from};
 ghost use Rattle.mt_site.specs.Headline.{KeepsTheHeadline};
-ghost use Rattle.mt_site.specs.Stood.{IsSiteWith};
+ghost use Rattle.mt_site.specs.Stood.{IsCoreWith};
 
 use crate::controller::Core;
 use crate::rows::{self, Hint, NOWHERE};
@@ -17,9 +17,9 @@ use mt_event::Reason;
 use mt_laws::every_run_keeps_the_headline;
 use mt_model::Op;
 use mt_names::{KeyspaceName, RuleTarget, TableName, TabletType, Value};
-use mt_site_events::{a_purged_core_stands, what_is_purged_stays_purged};
-use mt_site_ways::{
-    a_purged_site_stands, a_site_stays_one, events_by_hand_step_and_leave_the_ways,
+use mt_refinement::{
+    a_core_stays_one, a_purged_base_stands, a_purged_core_stands,
+    events_by_hand_step_and_leave_the_ways, what_is_purged_stays_purged,
 };
 
 /// A table of a keyspace, with a hint of where it stands.
@@ -51,8 +51,8 @@ impl Core {
         Place { target, hint }
     }
 
-    /// A table of a keyspace, by its names: see `place_of`.
-    pub(crate) fn place_at(&self, keyspace: &KeyspaceName, table: &TableName) -> Place
+    /// The same of a table of a keyspace, by their names. It takes no memory.
+    pub fn place_at(&self, keyspace: &KeyspaceName, table: &TableName) -> Place
         ensures keyspace { result.target.keyspace ≡ keyspace.now }
         ensures table { result.target.table ≡ table.now }
     {
@@ -67,21 +67,21 @@ impl Core {
     /// Each leaves the core as it was, and the topology stays whatever is answered. As a segment of the log gets whole, it is purged.
     #[inline(always)]
     pub fn write_row(&mut self, place: &Place, op: Op) -> Result<(), Reason>
-        ensures does { WritesAndPurges self.old.core place.now.target.keyspace place.now.target.table op (done_by result) self.new.core }
-        ensures topology { self.new.core.topology ≡ self.old.core.topology }
+        ensures does { WritesAndPurges self.old.base place.now.target.keyspace place.now.target.table op (done_by result) self.new.base }
+        ensures topology { self.new.base.topology ≡ self.old.base.topology }
         ensures ways { self.new.ways ≡ self.old.ways }
         ensures steps { (scopes : List Scope)
-            → SiteSteps scopes self.old (plain.write place.now.target.keyspace place.now.target.table op) (done_by result) self.new }
+            → CoreSteps scopes self.old (plain.write place.now.target.keyspace place.now.target.table op) (done_by result) self.new }
         ensures unchanged { OnErr result (self.new ≡ self.old) }
         ensures headline { (scopes : List Scope)
             → KeepsTheHeadline scopes self.old (plain.write place.now.target.keyspace place.now.target.table op ∷ []) (done_by result ∷ []) self.new }
-        ensures stood { (scopes : List Scope) → IsSiteWith scopes self.old → IsSiteWith scopes self.new }
-        ensures purged { IsPurged self.old.core → IsPurged self.new.core }
+        ensures stood { (scopes : List Scope) → IsCoreWith scopes self.old → IsCoreWith scopes self.new }
+        ensures purged { IsPurged self.old.base → IsPurged self.new.base }
     {
-        a_site_stays_one();
+        a_core_stays_one();
         events_by_hand_step_and_leave_the_ways();
+        a_purged_base_stands();
         a_purged_core_stands();
-        a_purged_site_stands();
         what_is_purged_stays_purged();
         every_run_keeps_the_headline();
         rows::write_row(
@@ -104,9 +104,9 @@ impl Core {
         key: u64,
         tablet_type: TabletType,
     ) -> Result<Option<Value>, Reason>
-        ensures does { ReadsRow self.now.core place.now.target.keyspace place.now.target.table key tablet_type (read_from result) self.now.core }
+        ensures does { ReadsRow self.now.base place.now.target.keyspace place.now.target.table key tablet_type (read_from result) self.now.base }
         ensures steps { (scopes : List Scope)
-            → SiteSteps scopes self.now (plain.read place.now.target.keyspace place.now.target.table key tablet_type) (read_from result) self.now }
+            → CoreSteps scopes self.now (plain.read place.now.target.keyspace place.now.target.table key tablet_type) (read_from result) self.now }
         ensures headline { (scopes : List Scope)
             → KeepsTheHeadline scopes self.now (plain.read place.now.target.keyspace place.now.target.table key tablet_type ∷ []) (read_from result ∷ []) self.now }
     {

@@ -3,7 +3,7 @@ use Rattle.std.proofs.Common.{◌≡◌, refl, ap, ◌∙◌, subst}
 use Rattle.mt_event.specs.Events.{answer_from}
 use Rattle.mt_event.specs.Reasons.{done_by}
 use Rattle.mt_plain.specs.Events as plain
-use Rattle.mt_site_state.specs.Ways.{SiteSteps}
+use Rattle.mt_stands.specs.Ways.{CoreSteps}
 use Rattle.mt_site.specs.Applies.{AppliesAndPurges}
 use Rattle.mt_site.specs.ByHand.{read_from}
 use Rattle.mt_desk.proofs.AnswerLemmas.{read_told, write_told}
@@ -20,7 +20,7 @@ returns-in-Write-clause-applies g c =
     let (made, wrote, purges) = c.write_row-told.ensures.does in
     rw (c.in-Write.is, told)
     (subst (λ e. AppliesAndPurges (g.W.Asks.scopes c.args.watchers.now) (g.W.Asks.may_answer c.args.watchers.now) c.args.core.now e (done_by c.write_row-told.result) c.write_row-told.new.self) same
-    (record c.args.core.now { core = made }, (wrote, refl), (purges, c.write_row-told.ensures.ways)))
+    (record c.args.core.now { base = made }, (wrote, refl), (purges, c.write_row-told.ensures.ways)))
 
 pub returns-in-Read-clause-applies : goal.returns-in-Read-clause-applies
 returns-in-Read-clause-applies g c =
@@ -42,7 +42,7 @@ returns-in-Write-clause-steps g c =
     ap (λ k. plain.write k target.table c.copied.result) c.place_at.ensures.keyspace ∙ ap (λ t. plain.write asked.keyspace t c.copied.result) c.place_at.ensures.table
     ∙ ap (plain.write asked.keyspace asked.table) c.copied.ensures in
     let told : answer_from c.of_write.result ≡ done_by c.write_row-told.result = ap answer_from c.of_write.ensures ∙ write_told c.write_row-told.result in
-    rw (c.in-Write.is, told) (subst (λ e. SiteSteps scopes c.args.core.now e (done_by c.write_row-told.result) c.write_row-told.new.self) same (c.write_row-told.ensures.steps scopes))
+    rw (c.in-Write.is, told) (subst (λ e. CoreSteps scopes c.args.core.now e (done_by c.write_row-told.result) c.write_row-told.new.self) same (c.write_row-told.ensures.steps scopes))
 
 pub returns-in-Read-clause-steps : goal.returns-in-Read-clause-steps
 returns-in-Read-clause-steps g c =
@@ -52,4 +52,4 @@ returns-in-Read-clause-steps g c =
     let same : plain.read target.keyspace target.table asked.key asked.type_of ≡ plain.read asked.keyspace asked.table asked.key asked.type_of =
     ap (λ k. plain.read k target.table asked.key asked.type_of) c.place_at-in-Read.ensures.keyspace ∙ ap (λ t. plain.read asked.keyspace t asked.key asked.type_of) c.place_at-in-Read.ensures.table in
     let told : answer_from c.keep_read.result ≡ read_from c.read_row-told.result = ap answer_from c.keep_read.ensures ∙ read_told c.read_row-told.result in
-    rw (c.in-Read.is, told) (subst (λ e. SiteSteps scopes c.args.core.now e (read_from c.read_row-told.result) c.args.core.now) same (c.read_row-told.ensures.steps scopes))
+    rw (c.in-Read.is, told) (subst (λ e. CoreSteps scopes c.args.core.now e (read_from c.read_row-told.result) c.args.core.now) same (c.read_row-told.ensures.steps scopes))

@@ -1,7 +1,7 @@
 -- There is room for the answer by value in both rooms: an undo and a Cancel are answered in place.
 use Rattle.mt_event.specs.Events.{event_of}
-use Rattle.mt_kept.specs.Answers.{needs_room}
-use Rattle.mt_kept.specs.Rooms.{IsReady}
+use Rattle.mt_event.specs.CompactAnswers.{needs_room}
+use Rattle.mt_event.specs.Rooms.{IsReady}
 use Rattle.mt_desk.specs.Room.{gives_up, is_undo_or_cancel}
 use Rattle.mt_desk.proofs.AnswerLemmas.{answer_in_place, ready_from, up_is_short}
 use Rattle.mt_desk.proofs.answered.answered_by_value.Goals as goal

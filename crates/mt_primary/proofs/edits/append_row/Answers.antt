@@ -2,7 +2,7 @@
 use Rattle.std.proofs.Common.{None, Some, Err, refl, sym, rules, ◌≡◌, ◌∙◌}
 use Rattle.mt_model.specs.declared.faults.PrimaryFault.TheVariants.{NoRow, TooLong}
 use Rattle.mt_model.specs.declared.rows.Op.TheVariants.{Append}
-use Rattle.mt_pages.proofs.FoundLemmas.{replaced-row, row-fits, same-row}
+use Rattle.mt_store.proofs.FoundLemmas.{replaced-row, row-fits, same-row}
 use Rattle.mt_primary.specs.Tables.{Write}
 use Rattle.mt_primary.proofs.ChangeLemmas.{entered, refused_room, refused_row}
 use Rattle.mt_primary.proofs.edits.append_row.Goals as goal

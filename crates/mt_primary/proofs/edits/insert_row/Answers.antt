@@ -2,7 +2,7 @@
 use Rattle.std.proofs.Common.{None, Some, Err, refl, rules}
 use Rattle.mt_model.specs.declared.faults.PrimaryFault.TheVariants.{RowExists}
 use Rattle.mt_model.specs.declared.rows.Op.TheVariants.{Insert}
-use Rattle.mt_pages.proofs.FoundLemmas.{put-done, put-refused, row-fits, row-stands}
+use Rattle.mt_store.proofs.FoundLemmas.{put-done, put-refused, row-fits, row-stands}
 use Rattle.mt_primary.specs.Tables.{Write}
 use Rattle.mt_primary.proofs.ChangeLemmas.{entered, refused_memory, refused_room, refused_row}
 use Rattle.mt_primary.proofs.edits.insert_row.Goals as goal

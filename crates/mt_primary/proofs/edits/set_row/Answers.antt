@@ -1,6 +1,6 @@
 -- The row is set, whatever stands there.
 use Rattle.std.proofs.Common.{Some, refl, sym, rules}
-use Rattle.mt_pages.proofs.FoundLemmas.{set-done, set-refused}
+use Rattle.mt_store.proofs.FoundLemmas.{set-done, set-refused}
 use Rattle.mt_primary.proofs.ChangeLemmas.{entered, refused_memory, refused_room}
 use Rattle.mt_primary.proofs.edits.set_row.Goals as goal
 

@@ -1,6 +1,6 @@
 -- The log read one entry after the other.
 use Rattle.std.proofs.Common.{None, Some}
-use Rattle.mt_log.proofs.ReadLemmas.{from_end, from_entry, is_kept, read_within}
+use Rattle.mt_store.proofs.ReadLemmas.{from_end, from_entry, is_kept, read_within}
 use Rattle.mt_primary.proofs.read_laws.a_log_is_read_in_order.Goals as goal
 
 pub returns-clause-kept : goal.returns-clause-kept

@@ -1,7 +1,7 @@
 -- The line was written, or cut short.
 use Rattle.std.proofs.Common.{◌++◌, ◌∙◌, [], append-nil, subst}
 use Rattle.mt_plain.specs.Output.{line_feed}
-use Rattle.mt_io.specs.Bytes.{Writes}
+use Rattle.mt_script.specs.Bytes.{Writes}
 use Rattle.mt_program.proofs.race.tell_race.Goals as goal
 
 pub returns-in-Ok : goal.returns-in-Ok

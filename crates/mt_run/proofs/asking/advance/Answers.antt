@@ -24,10 +24,10 @@ returns-in-Err-clause-answered g c = λ scopes.
 
 pub invariant_of-cached : goal.invariant_of-cached
 invariant_of-cached g c =
-    let old = c.args.cached.now.site.core.core in
+    let old = c.args.cached.now.site.core.base in
     let words = c.args.words in
     record {
       lead = subst (λ t. LeadThere t c.args.cached.now.names.kept.entries)
-          (sym (advance_leaves_topology old c.advance-told.new.self.core.core c.args.workflow.now (stream_name words.stream) c.in-Ok.shard words.at words.max (advanced_from c.advance-told.result) c.advance-told.ensures.does))
+          (sym (advance_leaves_topology old c.advance-told.new.self.core.base c.args.workflow.now (stream_name words.stream) c.in-Ok.shard words.at words.max (advanced_from c.advance-told.result) c.advance-told.ensures.does))
           c.args.cached.now.lead;
     }

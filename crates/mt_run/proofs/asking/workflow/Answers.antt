@@ -5,7 +5,7 @@ use Rattle.mt_plain.specs.Events as plain
 use Rattle.mt_plain.specs.Script.{Request, advance_in, drive, event}
 use Rattle.mt_script.specs.declared.lines.WorkflowAsked.TheVariants as asked
 use Rattle.mt_workflow.specs.Workflows.{stream_name}
-use Rattle.mt_run.proofs.AskLemmas.{drive_alike, range_read, types_read, workflow_read}
+use Rattle.mt_run.proofs.AskLemmas.{range_read, types_read, workflow_read}
 use Rattle.mt_run.proofs.asking.workflow.Goals as goal
 
 pub returns-in_ok-range-in-Advance-clause-named : goal.returns-in_ok-range-in-Advance-clause-named
@@ -44,13 +44,13 @@ pub returns-in_ok-types-in-Switch-clause-named : goal.returns-in_ok-types-in-Swi
 returns-in_ok-types-in-Switch-clause-named g c =
     let w = c.in_ok-workflow.field-0 in
     let request = drive w c.in_ok-types-in-Switch.types false in
-    (request, workflow_read c.args.name.now c.args.asked (asked.Switch c.in-Switch.types) w request c.in-Switch.is c.in_ok-workflow.ensures.value (types_read (λ t. drive w t false) c.in-Switch.types.now c.in_ok-types-in-Switch.types c.in_ok-types-in-Switch.ensures.value), drive_alike _ _ _ _ _ _ _ _ false _ _ _ _ c.drive_whole.new.cached.site.core _ refl refl refl refl refl refl refl c.drive_whole.ensures.answered)
+    (request, workflow_read c.args.name.now c.args.asked (asked.Switch c.in-Switch.types) w request c.in-Switch.is c.in_ok-workflow.ensures.value (types_read (λ t. drive w t false) c.in-Switch.types.now c.in_ok-types-in-Switch.types c.in_ok-types-in-Switch.ensures.value), c.drive_whole.ensures.answered)
 
 pub returns-in_ok-types-in-Reverse-clause-named : goal.returns-in_ok-types-in-Reverse-clause-named
 returns-in_ok-types-in-Reverse-clause-named g c =
     let w = c.in_ok-workflow.field-0 in
     let request = drive w c.in_ok-types-in-Reverse.types true in
-    (request, workflow_read c.args.name.now c.args.asked (asked.Reverse c.in-Reverse.types) w request c.in-Reverse.is c.in_ok-workflow.ensures.value (types_read (λ t. drive w t true) c.in-Reverse.types.now c.in_ok-types-in-Reverse.types c.in_ok-types-in-Reverse.ensures.value), drive_alike _ _ _ _ _ _ _ _ true _ _ _ _ c.drive_whole-in-Reverse.new.cached.site.core _ refl refl refl refl refl refl refl c.drive_whole-in-Reverse.ensures.answered)
+    (request, workflow_read c.args.name.now c.args.asked (asked.Reverse c.in-Reverse.types) w request c.in-Reverse.is c.in_ok-workflow.ensures.value (types_read (λ t. drive w t true) c.in-Reverse.types.now c.in_ok-types-in-Reverse.types c.in_ok-types-in-Reverse.ensures.value), c.drive_whole-in-Reverse.ensures.answered)
 
 pub returns-in-Cancel-clause-named : goal.returns-in-Cancel-clause-named
 returns-in-Cancel-clause-named g c =

@@ -2,7 +2,7 @@
 use Rattle.std.proofs.Common.{◌≡◌, ◌++◌, ◌∙◌, subst}
 use Rattle.std.proofs.lemmas.Result.{err_from_is_err_and}
 use Rattle.mt_plain.specs.Output.{line_feed}
-use Rattle.mt_io.specs.Bytes.{IsCutShort}
+use Rattle.mt_script.specs.Bytes.{IsCutShort}
 use Rattle.mt_run.proofs.command.tell_refusal.Goals as goal
 
 pub returns-in_err-write_line : goal.returns-in_err-write_line

@@ -4,7 +4,7 @@ use Rattle.std.proofs.lemmas.Result.{err_from_is_err_and}
 use Rattle.std.specs.Prelude.{IfSome, string_bytes}
 use Rattle.mt_plain.specs.Output.{line_feed, says, told}
 use Rattle.mt_plain.specs.Script.{read_line}
-use Rattle.mt_io.specs.Bytes.{Writes}
+use Rattle.mt_script.specs.Bytes.{Writes}
 use Rattle.mt_run.proofs.RunLemmas.{document_tells_made, document_unwritten, document_wanting, line_written}
 use Rattle.mt_run.proofs.script.put_made.Goals as goal
 

@@ -2,7 +2,7 @@
 use Rattle.std.proofs.Common.{◌≡◌, ◌∙◌, Err, Ok, length, ap, arith, refl, subst}
 use Rattle.std.proofs.lemmas.Result.{err_from_is_err_and}
 use Rattle.mt_plain.specs.Plain.{Plain}
-use Rattle.mt_site_state.specs.Ways.{SiteStands}
+use Rattle.mt_stands.specs.Ways.{CoreStands}
 use Rattle.mt_run.specs.Runs.{RunsLine}
 use Rattle.mt_run.proofs.RunLemmas.{begins, ends, line_done, line_failed, room_failed, room_made}
 use Rattle.mt_run.proofs.script.run_lines.Goals as goal
@@ -31,8 +31,8 @@ returns-in_err-run_line g c = λ p stands.
     let e = err_from_is_err_and c.from_residual-in_err-run_line.result c.from_residual-in_err-run_line.ensures.1 in
     let same : e.0 ≡ fault = search (e.2) in
     let room = room_made scopes p c.args.script.now c.loop-line.rest.now now _ _ _ c.loop-line.waiting.items c.make_room.new.waiting.items (c.loop-line.invariant.so_far p stands) c.in_ok-make_room.ensures.writes in
-    let runs : (q : Plain) → SiteStands q scopes now → RunsLine scopes q c.in-Some.line.now new held held' c.make_room.new.waiting.items c.run_line.new.waiting.items (Err fault)
-    = subst (λ w. (q : Plain) → SiteStands q (g.A.Asks.scopes w) now → RunsLine (g.A.Asks.scopes w) q c.in-Some.line.now new held held' c.make_room.new.waiting.items c.run_line.new.waiting.items (Err fault))
+    let runs : (q : Plain) → CoreStands q scopes now → RunsLine scopes q c.in-Some.line.now new held held' c.make_room.new.waiting.items c.run_line.new.waiting.items (Err fault)
+    = subst (λ w. (q : Plain) → CoreStands q (g.A.Asks.scopes w) now → RunsLine (g.A.Asks.scopes w) q c.in-Some.line.now new held held' c.make_room.new.waiting.items c.run_line.new.waiting.items (Err fault))
     c.loop-line.invariant.watchers c.in_err-run_line.ensures.runs in
     rw (e.1, same) (line_failed scopes p c.args.script.now c.loop-line.rest.now c.in-Some.line.now c.in-Some.after.now now new _ held held' c.make_room.new.waiting.items c.run_line.new.waiting.items c.in-Some.ensures fault room runs)
 
@@ -43,8 +43,8 @@ loop-line-preserved g c =
     let new = c.run_line.new.cached.site.core in
     let held = g.W.Write.contents c.make_room.new.writer in
     let held' = g.W.Write.contents c.run_line.new.writer in
-    let runs : (q : Plain) → SiteStands q scopes now → RunsLine scopes q c.in-Some.line.now new held held' c.make_room.new.waiting.items c.run_line.new.waiting.items (Ok tt)
-    = subst (λ w. (q : Plain) → SiteStands q (g.A.Asks.scopes w) now → RunsLine (g.A.Asks.scopes w) q c.in-Some.line.now new held held' c.make_room.new.waiting.items c.run_line.new.waiting.items (Ok tt))
+    let runs : (q : Plain) → CoreStands q scopes now → RunsLine scopes q c.in-Some.line.now new held held' c.make_room.new.waiting.items c.run_line.new.waiting.items (Ok tt)
+    = subst (λ w. (q : Plain) → CoreStands q (g.A.Asks.scopes w) now → RunsLine (g.A.Asks.scopes w) q c.in-Some.line.now new held held' c.make_room.new.waiting.items c.run_line.new.waiting.items (Ok tt))
     c.loop-line.invariant.watchers c.in_ok-run_line.ensures.runs in
     record {
       watchers = c.run_line.ensures.watchers ∙ c.loop-line.invariant.watchers;

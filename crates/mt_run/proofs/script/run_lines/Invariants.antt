@@ -2,7 +2,7 @@
 use Rattle.std.proofs.Common.{◌≡◌, length}
 use Rattle.std.specs.Str.Lines.{lines}
 use Rattle.mt_plain.specs.Plain.{Plain}
-use Rattle.mt_site_state.specs.Ways.{SiteStands}
+use Rattle.mt_stands.specs.Ways.{CoreStands}
 use Rattle.mt_run.proofs.RunLemmas.{SoFar}
 use Rattle.mt_run.proofs.script.run_lines.Given as goal
 
@@ -11,7 +11,7 @@ invariant-loop-line g l =
     let scopes = g.A.Asks.scopes l.fn.cached.site.watchers in
     record {
       watchers : l.cached.site.watchers ≡ l.fn.cached.site.watchers;
-      so_far : (p : Plain) → SiteStands p scopes l.fn.cached.site.core
+      so_far : (p : Plain) → CoreStands p scopes l.fn.cached.site.core
           → SoFar scopes p l.fn.script l.rest l.cached.site.core (g.W.Write.contents l.fn.writer) (g.W.Write.contents l.writer) l.waiting.items;
     }
 

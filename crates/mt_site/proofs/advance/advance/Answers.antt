@@ -2,7 +2,7 @@
 use Rattle.std.proofs.Common.{length, nat_lt, subst, sym}
 use Rattle.mt_model.specs.Topology.{TopologyState}
 use Rattle.mt_workflow.specs.Workflows.{stream_name}
-use Rattle.mt_site_state.specs.Workflows.{AdvancesAt}
+use Rattle.mt_stands.specs.Workflows.{AdvancesAt}
 use Rattle.mt_site.specs.Advance.{advanced_from}
 use Rattle.mt_site.proofs.AdvanceLemmas.{advanced_lane}
 use Rattle.mt_site.proofs.advance.advance.Goals as goal

@@ -2,10 +2,10 @@
 use Rattle.std.proofs.Common.{ap, arith, length, subst, ◌∙◌}
 use Rattle.std.proofs.lemmas.Map.Entries.{length-values_of}
 use Rattle.mt_names.proofs.EntryLemmas.{some_from}
-use Rattle.mt_primaries.proofs.PrimaryLemmas.{there_from_count}
-use Rattle.mt_primaries.specs.Places.{IsAt}
-use Rattle.mt_primaries.specs.Primaries.{has_primaries}
-use Rattle.mt_site_workflows.proofs.PrimaryLemmas.{places-apart}
+use Rattle.mt_primary.proofs.PrimariesLemmas.{there_from_count}
+use Rattle.mt_primary.specs.Places.{IsAt}
+use Rattle.mt_primary.specs.Primaries.{has_primaries}
+use Rattle.mt_moves.proofs.PrimaryLemmas.{places-apart}
 use Rattle.mt_workflow.specs.Workflows.{slot_of, stream_name}
 use Rattle.mt_site.proofs.AdvanceLemmas.{advanced-between, shard-beside, single-beside, stands-beside}
 use Rattle.mt_site.proofs.CoreLemmas.{lane_below}

@@ -1,6 +1,6 @@
 -- The keyspace's place is found.
 use Rattle.std.proofs.Common.{ap, is_some, sym, true≢false, ◌∙◌}
-use Rattle.mt_primaries.proofs.PlaceLemmas.{at_within}
+use Rattle.mt_primary.proofs.PlaceLemmas.{at_within}
 use Rattle.mt_site.proofs.advance.place_of.Goals as goal
 
 pub unreachable-requires : goal.unreachable-requires

@@ -3,11 +3,11 @@ use Rattle.std.proofs.Common.{◌≡◌, ap, false, refl, sym, take, length, ◌
 use Rattle.std.specs.Option.{option_map}
 use Rattle.mt_model.specs.Topology.{TopologyState, with_keyspace}
 use Rattle.mt_topology.specs.Edits.{add_keyspace_refusal}
-use Rattle.mt_primaries.specs.Primaries as primaries
-use Rattle.mt_primaries.specs.Primaries.{Primaries, has_primaries, new_shards}
-use Rattle.mt_site_state.specs.ByHand.{refusal_by_topology}
-use Rattle.mt_site_state.specs.Core.{CoreState, Workflows}
-use Rattle.mt_site_workflows.proofs.PrimaryLemmas.{there-or-not}
+use Rattle.mt_primary.specs.Primaries as primaries
+use Rattle.mt_primary.specs.Primaries.{Primaries, has_primaries, new_shards}
+use Rattle.mt_stands.specs.ByHand.{refusal_by_topology}
+use Rattle.mt_stands.specs.Base.{BaseState, Workflows}
+use Rattle.mt_moves.proofs.PrimaryLemmas.{there-or-not}
 use Rattle.mt_site.proofs.HandLemmas.{keyspace-exists, keyspace-free, keyspace-full, keyspace-left, keyspace-refused}
 use Rattle.mt_site.proofs.PrimaryLemmas.{added, not_added, popped}
 use Rattle.mt_site.proofs.by_hand.add_keyspace.Goals as goal
@@ -36,7 +36,7 @@ pub returns-then-is_err : goal.returns-then-is_err
 returns-then-is_err c = λ (workflows : Workflows).
     let name = c.args.name.now in
     let there = there-or-not c.args.primaries.now name c.place.result c.place.ensures.found in
-    let by_primaries : Primaries → CoreState = λ ps. record { topology = c.args.topology.now; primaries = ps; workflows = workflows } in (
+    let by_primaries : Primaries → BaseState = λ ps. record { topology = c.args.topology.now; primaries = ps; workflows = workflows } in (
       keyspace-free c.args.topology.now.keyspaces name (sym (c.requires.there name) ∙ sym there ∙ sym c.is_some.ensures ∙ c.if-is_some.false)
           (λ e. c.if-len-eq-MAX_KEYSPACES.false (c.len.ensures ∙ c.requires.count ∙ e)),
       refl,
@@ -54,9 +54,9 @@ returns-in-Err c = λ (workflows : Workflows).
     let refusal = add_keyspace_refusal t.keyspaces name in
     let wanted = with_keyspace t name c.copied-3.result in
     let left = keyspace-left t c.add_keyspace.new.self refusal wanted c.in-Err.fault c.in-Err.ensures in
-    let by_topology : TopologyState → CoreState = λ u. record { topology = u; primaries = c.pop.new.self; workflows = workflows } in
-    let by_primaries : Primaries → CoreState = λ l. record { topology = t; primaries = l; workflows = workflows } in
-    let done : CoreState = record { topology = with_keyspace t name c.args.shards.now; primaries = primaries.with_keyspace ps name c.args.shards.now; workflows = workflows } in
+    let by_topology : TopologyState → BaseState = λ u. record { topology = u; primaries = c.pop.new.self; workflows = workflows } in
+    let by_primaries : Primaries → BaseState = λ l. record { topology = t; primaries = l; workflows = workflows } in
+    let done : BaseState = record { topology = with_keyspace t name c.args.shards.now; primaries = primaries.with_keyspace ps name c.args.shards.now; workflows = workflows } in
     rw c.refusal_by_topology.ensures (keyspace-refused t c.add_keyspace.new.self refusal wanted c.in-Err.fault c.in-Err.ensures (by_primaries ps) (by_topology c.add_keyspace.new.self) done (ap by_topology left ∙ ap by_primaries back))
 
 pub returns : goal.returns
@@ -67,6 +67,6 @@ returns c = λ (workflows : Workflows).
     let done = c.in_default.ensures in
     let made = added _ _ c.add.result (sym c.is_err.ensures.value ∙ c.if-is_err.false) c.add.ensures
     ∙ ap (λ n. primaries.with_keyspace ps n c.copied-2.result) c.copied.ensures ∙ ap (primaries.with_keyspace ps name) c.copied-2.ensures in
-    let by_topology : TopologyState → CoreState = λ t. record { topology = t; primaries = c.add.new.self; workflows = workflows } in
-    let by_primaries : Primaries → CoreState = λ l. record { topology = with_keyspace c.args.topology.now name cuts; primaries = l; workflows = workflows } in
+    let by_topology : TopologyState → BaseState = λ t. record { topology = t; primaries = c.add.new.self; workflows = workflows } in
+    let by_primaries : Primaries → BaseState = λ l. record { topology = with_keyspace c.args.topology.now name cuts; primaries = l; workflows = workflows } in
     (ap (option_map refusal_by_topology) done.0, ap by_topology (done.1 ∙ ap (with_keyspace c.args.topology.now name) c.copied-3.ensures) ∙ ap by_primaries made)

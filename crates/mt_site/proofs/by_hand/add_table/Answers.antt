@@ -3,9 +3,9 @@ use Rattle.std.proofs.Common.{◌≡◌, ap, refl, subst, sym, true, ◌∙◌}
 use Rattle.std.specs.Option.{option_map}
 use Rattle.mt_model.specs.declared.entries.EntryKey.TheVariants as about
 use Rattle.mt_model.specs.Topology.{TopologyState, has_place}
-use Rattle.mt_site_state.specs.ByHand.{refusal_by_topology}
-use Rattle.mt_primaries.specs.Primaries.{Primaries}
-use Rattle.mt_site_state.specs.Core.{CoreState, Workflows}
+use Rattle.mt_stands.specs.ByHand.{refusal_by_topology}
+use Rattle.mt_primary.specs.Primaries.{Primaries}
+use Rattle.mt_stands.specs.Base.{BaseState, Workflows}
 use Rattle.mt_site.specs.ByHand.{without_table}
 use Rattle.mt_site.proofs.HandLemmas.{has-primary, table-free, table_has_place, taken_back}
 use Rattle.mt_site.proofs.PrimaryLemmas.{not_created}
@@ -31,6 +31,6 @@ returns-then-is_err c = λ (workflows : Workflows).
     c.take_table.ensures ∙ ap (λ t. without_table t c.args.keyspace.now c.args.table.now) made.1
     ∙ taken_back c.args.topology.now c.args.primaries.now c.args.keyspace.now c.args.table.now c.requires made.0 in
     let kept = not_created c.args.primaries.now c.create_table_at.new.primaries c.args.keyspace.now c.args.table.now c.create_table_at.result (sym c.is_err.ensures.value ∙ c.if-is_err.true) c.create_table_at.ensures in
-    let by_topology : TopologyState → CoreState = λ t. record { topology = t; primaries = c.create_table_at.new.primaries; workflows = workflows } in
-    let by_primaries : Primaries → CoreState = λ ps. record { topology = c.args.topology.now; primaries = ps; workflows = workflows } in
+    let by_topology : TopologyState → BaseState = λ t. record { topology = t; primaries = c.create_table_at.new.primaries; workflows = workflows } in
+    let by_primaries : Primaries → BaseState = λ ps. record { topology = c.args.topology.now; primaries = ps; workflows = workflows } in
     (ap (option_map refusal_by_topology) made.0, refl, ap by_topology back ∙ ap by_primaries kept)

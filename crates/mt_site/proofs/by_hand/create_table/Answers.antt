@@ -3,8 +3,8 @@ use Rattle.std.proofs.Common.{◌≡◌, ap, get_or, set, ◌∙◌}
 use Rattle.std.proofs.lemmas.List.{get_or_default, set-get_or}
 use Rattle.mt_primary.specs.Primary.{PrimaryState, empty_primary, has_table}
 use Rattle.mt_primary.specs.Writes.{with_new_table, without_table}
-use Rattle.mt_site_workflows.specs.Target.{changed_to}
-use Rattle.mt_site_workflows.proofs.ChangeLemmas.{changed-all, changed-back, changed-next, still}
+use Rattle.mt_moves.specs.Target.{changed_to}
+use Rattle.mt_moves.proofs.ChangeLemmas.{changed-all, changed-back, changed-next, still}
 use Rattle.mt_site.proofs.PrimaryLemmas.{made_and_dropped}
 use Rattle.mt_site.proofs.by_hand.create_table.Goals as goal
 

@@ -1,7 +1,7 @@
 -- The primaries before this one have the table.
 use Rattle.std.proofs.Common.{◌≡◌}
 use Rattle.mt_primary.specs.Writes.{with_new_table}
-use Rattle.mt_site_workflows.specs.Target.{changed_to}
+use Rattle.mt_moves.specs.Target.{changed_to}
 use Rattle.mt_site.proofs.by_hand.create_table.Given as goal
 
 abbrev pub invariant-loop-index : goal.invariant-loop-index

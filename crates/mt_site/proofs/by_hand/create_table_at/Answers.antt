@@ -1,10 +1,10 @@
 -- What was lent of the keyspace becomes its own.
 use Rattle.std.proofs.Common.{◌≡◌, ap, get_or, is_some, length, map, subst, sym, true≢false, ◌<◌, ◌∙◌}
 use Rattle.std.specs.Result.{OnErr, OnOk}
-use Rattle.mt_primaries.proofs.PlaceLemmas.{at_within}
+use Rattle.mt_primary.proofs.PlaceLemmas.{at_within}
 use Rattle.mt_primary.specs.Primary.{PrimaryState, empty_primary, has_table}
 use Rattle.mt_primary.specs.Writes.{with_new_table}
-use Rattle.mt_site_workflows.proofs.PrimaryLemmas.{lent-at}
+use Rattle.mt_moves.proofs.PrimaryLemmas.{lent-at}
 use Rattle.mt_site.proofs.PrimaryLemmas.{table_created}
 use Rattle.mt_site.proofs.by_hand.create_table_at.Goals as goal
 

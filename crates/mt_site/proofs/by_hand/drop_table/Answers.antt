@@ -2,7 +2,7 @@
 use Rattle.std.proofs.Common.{◌<◌, length, arith}
 use Rattle.mt_primary.specs.Primary.{PrimaryState}
 use Rattle.mt_primary.specs.Writes.{without_table}
-use Rattle.mt_site_workflows.proofs.ChangeLemmas.{changed-next}
+use Rattle.mt_moves.proofs.ChangeLemmas.{changed-next}
 use Rattle.mt_site.proofs.by_hand.drop_table.Goals as goal
 
 pub loop-index-preserved : goal.loop-index-preserved

@@ -1,7 +1,7 @@
 -- The primaries before this one have lost the table.
 use Rattle.std.proofs.Common.{◌≡◌}
 use Rattle.mt_primary.specs.Writes.{without_table}
-use Rattle.mt_site_workflows.specs.Target.{changed_to}
+use Rattle.mt_moves.specs.Target.{changed_to}
 use Rattle.mt_site.proofs.by_hand.drop_table.Given as goal
 
 abbrev pub invariant-loop-index : goal.invariant-loop-index

@@ -23,14 +23,16 @@ returns-in_err-command-clause-drives g c =
     let new = c.command.new.self.core in
     let e = err_from_is_err_and c.from_residual.result c.from_residual.ensures.1 in
     subst (λ r. DrivesFrom scopes old c.args.workflow.now c.args.types c.args.back r new) (sym e.1)
-    (refused_begin scopes old new c.args.workflow.now c.args.types c.args.back e.0 1399
-    (turn_taken scopes old new start (plain.ends (Err (refusal_from e.0))) (event_of_command c.begin_of.result) (done_by c.command.result) c.command.ensures.steps
-    (λ p stands. c.begin_of.ensures p) (λ q stands. ap (λ r. plain.heard q start (done_by r)) c.in_err-command.was ∙ ap (λ r. plain.ends (Err (refusal_from r))) (sym e.2))))
+    (record {
+      each = refused_begin scopes old new c.args.workflow.now c.args.types c.args.back e.0 1399
+          (turn_taken scopes old new start (plain.ends (Err (refusal_from e.0))) (event_of_command c.begin_of.result) (done_by c.command.result) c.command.ensures.steps
+          (λ p stands. c.begin_of.ensures p) (λ q stands. ap (λ r. plain.heard q start (done_by r)) c.in_err-command.was ∙ ap (λ r. plain.ends (Err (refusal_from r))) (sym e.2)));
+    })
 
 pub returns-in_err-command-clause-headline : goal.returns-in_err-command-clause-headline
 returns-in_err-command-clause-headline g c =
     drive_keeps (g.W.Asks.scopes c.args.site.now.watchers) c.args.site.now.core c.command.new.self.core c.args.workflow.now c.args.types c.args.back c.from_residual.result most_turns
-    (returns-in_err-command-clause-drives g c) c.every_run_keeps_the_headline.ensures.with_earlier_lines
+    (returns-in_err-command-clause-drives g c).each c.every_run_keeps_the_headline.ensures.with_earlier_lines
 
 pub loop-init : goal.loop-init
 loop-init g c =
@@ -61,13 +63,15 @@ returns-in-Ends-clause-drives g c =
     = subst (λ w. Turns (g.W.Asks.scopes w) now driving (plain.ends (Ok (driven_from c.driven.result))) new) c.loop.invariant.watchers
     (subst (λ d. Turns (g.W.Asks.scopes c.loop.site.watchers) now driving (plain.ends (Ok d)) new) (sym c.driven.ensures) c.in-Ends.ensures) in
     let left : 1400 - c.loop.counter ≡ suc (1399 - c.loop.counter) = omega (arith, c.loop-test.true) in
-    ends_so scopes old now new start driving c.driven.result (1399 - c.loop.counter)
-    (subst (λ n. IsOnItsWay scopes old start n driving now) left c.loop.invariant.way) turn
+    record {
+      each = ends_so scopes old now new start driving c.driven.result (1399 - c.loop.counter)
+          (subst (λ n. IsOnItsWay scopes old start n driving now) left c.loop.invariant.way) turn;
+    }
 
 pub returns-in-Ends-clause-headline : goal.returns-in-Ends-clause-headline
 returns-in-Ends-clause-headline g c =
     drive_keeps (g.W.Asks.scopes c.args.site.now.watchers) c.args.site.now.core c.take.new.core c.args.workflow.now c.args.types c.args.back (Ok c.driven.result) most_turns
-    (returns-in-Ends-clause-drives g c) c.every_run_keeps_the_headline.ensures.with_earlier_lines
+    (returns-in-Ends-clause-drives g c).each c.every_run_keeps_the_headline.ensures.with_earlier_lines
 
 pub loop-preserved : goal.loop-preserved
 loop-preserved g c =
@@ -97,10 +101,12 @@ returns-clause-drives g c =
     let now = c.loop.site.core in
     let driving = turn_from name c.loop.turn in
     let none : 1400 - c.loop.counter ≡ 0 = omega (arith, c.loop-test.false) in
-    never_out scopes old now now start driving (Ok (driven.Stopped (refusal.Other reason.NotLevel) 0)) c.a_drive_fits_in_the_turns_that_are_left.ensures.never_runs_out
-    (subst (λ n. IsOnItsWay scopes old start n driving now) none c.loop.invariant.way)
+    record {
+      each = never_out scopes old now now start driving (Ok (driven.Stopped (refusal.Other reason.NotLevel) 0)) c.a_drive_fits_in_the_turns_that_are_left.ensures.never_runs_out
+          (subst (λ n. IsOnItsWay scopes old start n driving now) none c.loop.invariant.way);
+    }
 
 pub returns-clause-headline : goal.returns-clause-headline
 returns-clause-headline g c =
     drive_keeps (g.W.Asks.scopes c.args.site.now.watchers) c.args.site.now.core c.loop.site.core c.args.workflow.now c.args.types c.args.back (Ok (driven.Stopped (refusal.Other reason.NotLevel) 0)) most_turns
-    (returns-clause-drives g c) c.every_run_keeps_the_headline.ensures.with_earlier_lines
+    (returns-clause-drives g c).each c.every_run_keeps_the_headline.ensures.with_earlier_lines

@@ -1,7 +1,7 @@
 -- Those of one place more; a shard that isn't there has a primary as an empty one.
 use Rattle.std.proofs.Common.{◌≡◌, ◌<◌, ⊎_elim, arith, get_or, length, subst, sym}
 use Rattle.std.proofs.lemmas.Bool.{cases_lt}
-use Rattle.mt_primaries.specs.Places.{IsAt}
+use Rattle.mt_primary.specs.Places.{IsAt}
 use Rattle.mt_primary.specs.Primary.{IsPrimary, empty_primary}
 use Rattle.mt_site.proofs.PrimaryLemmas.{all-of}
 use Rattle.mt_site.proofs.primaries.each_is_a_primary.Goals as goal
@@ -17,5 +17,5 @@ loop-place-preserved c = λ k p within at n below.
 pub returns : goal.returns
 returns c =
     let all = c.len-place-end.ensures in
-    all-of c.args.primaries.now (subst IsPrimary c.new.ensures c.what_holds-2.ensures)
+    all-of c.args.primaries.now (subst IsPrimary c.new.ensures c.facts-2.ensures)
     (λ k p within at n below. c.loop-place.invariant k p (omega (arith, within, all, c.loop-place-test.false)) at n below)

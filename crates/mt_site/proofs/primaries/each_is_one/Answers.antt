@@ -13,7 +13,7 @@ loop-index-preserved c = λ n within.
     (λ past.
     let here : i ≡ n = omega (arith, within, past) in
     let is = c.index-primaries-index.is ∙ get_or_default ps i c.index-primaries-index.result empty_primary c.loop-index-test.true ∙ ap (λ m. get_or ps m empty_primary) here in
-    subst IsPrimary is c.what_holds.ensures) (cases_lt n i)
+    subst IsPrimary is c.facts.ensures) (cases_lt n i)
 
 pub returns : goal.returns
 returns c = λ n within. c.loop-index.invariant n (omega (arith, within, c.loop-index-test.false))

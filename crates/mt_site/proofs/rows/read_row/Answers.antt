@@ -5,10 +5,10 @@ use Rattle.mt_model.specs.Rows.{Row}
 use Rattle.mt_event.specs.declared.reason.Reason.{Reason}
 use Rattle.mt_event.specs.Reasons.{reason_from}
 use Rattle.mt_plain.specs.Events.{refused}
-use Rattle.mt_primaries.proofs.PlaceLemmas.{at_within}
+use Rattle.mt_primary.proofs.PlaceLemmas.{at_within}
 use Rattle.mt_primary.specs.Primary.{PrimaryState}
 use Rattle.mt_primary.specs.Reads.{read_row}
-use Rattle.mt_site_state.specs.ByHand.{answer_by_read}
+use Rattle.mt_stands.specs.ByHand.{answer_by_read}
 use Rattle.mt_site.proofs.PlacedLemmas.{read_there, refused_there}
 use Rattle.mt_site.proofs.rows.read_row.Goals as goal
 

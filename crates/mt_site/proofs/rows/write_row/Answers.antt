@@ -5,10 +5,10 @@ use Rattle.mt_event.specs.Reasons.{done_by, reason_from}
 use Rattle.mt_model.specs.declared.faults.PrimaryFault.{PrimaryFault}
 use Rattle.mt_model.specs.Rows.{op_key}
 use Rattle.mt_plain.specs.Events.{refused}
-use Rattle.mt_primaries.proofs.PlaceLemmas.{at_within, keyspace_at-is}
-use Rattle.mt_primaries.specs.Primaries.{count_of, place_of_key, shards_of, with_primary}
-use Rattle.mt_site_rows.specs.Answers.{answer_by}
-use Rattle.mt_site_state.specs.Purges.{has_whole_segments, without_unneeded}
+use Rattle.mt_primary.proofs.PlaceLemmas.{at_within, keyspace_at-is}
+use Rattle.mt_primary.specs.Primaries.{count_of, place_of_key, shards_of, with_primary}
+use Rattle.mt_stands.specs.Answers.{answer_by}
+use Rattle.mt_stands.specs.Purges.{has_whole_segments, without_unneeded}
 use Rattle.mt_site.proofs.PlacedLemmas.{core_of, purged_there, refused_there, written_there}
 use Rattle.mt_site.specs.Applies.{WritesAndPurges}
 use Rattle.mt_site.proofs.rows.write_row.Goals as goal

@@ -2,12 +2,12 @@
 use Rattle.std.proofs.Common.{map, ◌≤◌, ◌∙◌, add-one, length, rules, subst, suc, sym, take}
 use Rattle.std.proofs.lemmas.List.{take_all}
 use Rattle.mt_event.specs.Events.{answer_from, event_of}
-use Rattle.mt_site_state.specs.Ways.{SiteSteps}
+use Rattle.mt_stands.specs.Ways.{CoreSteps}
 use Rattle.mt_site.proofs.RunLemmas.{headline_kept, runs_more}
 use Rattle.mt_site.proofs.StoodLemmas.{stood_behind}
 use Rattle.mt_site.proofs.run.run_events.Goals as goal
 use Rattle.mt_site.specs.Runs.{Runs}
-use Rattle.mt_site.specs.Stood.{IsSiteWith}
+use Rattle.mt_site.specs.Stood.{IsCoreWith}
 
 pub loop-event-preserved : goal.loop-event-preserved
 loop-event-preserved g c =
@@ -16,8 +16,8 @@ loop-event-preserved g c =
     let scopes = g.W.Asks.scopes c.args.site.now.watchers in
     let old = c.args.site.now.core in
     let new = c.apply.new.self.core in
-    let step : SiteSteps scopes c.loop-event.site.core (event_of c.event-item.result) (answer_from c.apply.result) new
-    = subst (λ w. SiteSteps (g.W.Asks.scopes w) c.loop-event.site.core (event_of c.event-item.result) (answer_from c.apply.result) new) c.loop-event.invariant.watchers c.apply.ensures.steps in
+    let step : CoreSteps scopes c.loop-event.site.core (event_of c.event-item.result) (answer_from c.apply.result) new
+    = subst (λ w. CoreSteps (g.W.Asks.scopes w) c.loop-event.site.core (event_of c.event-item.result) (answer_from c.apply.result) new) c.loop-event.invariant.watchers c.apply.ensures.steps in
     record {
       room = subst (λ n. length events ≤ n) (sym c.push_reserved.ensures.capacity) c.loop-event.invariant.room;
       count = search rules;
@@ -45,6 +45,6 @@ returns-clause-stood g c = λ stood.
     let scopes = g.W.Asks.scopes c.args.site.now.watchers in
     let old = c.args.site.now.core in
     let new = c.loop-event.site.core in
-    subst (λ w. IsSiteWith (g.W.Asks.scopes w) new) (sym c.loop-event.invariant.watchers)
+    subst (λ w. IsCoreWith (g.W.Asks.scopes w) new) (sym c.loop-event.invariant.watchers)
     (stood_behind scopes old new events answers
     (subst (λ es. Runs scopes old es answers new) (take_all c.loop-event.event-index events c.loop-event-test.false) c.loop-event.invariant.runs) stood)

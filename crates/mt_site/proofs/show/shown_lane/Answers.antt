@@ -3,7 +3,7 @@ use Rattle.std.proofs.Common.{◌≡◌, Some, ap, option_map, rules, slice_get,
 use Rattle.mt_event.specs.Events.{shown_stream_from}
 use Rattle.mt_plain.specs.Events.{forward}
 use Rattle.mt_workflow.specs.Workflows.{slot_of}
-use Rattle.mt_site_state.specs.Workflows.{slot_from}
+use Rattle.mt_stands.specs.Workflows.{slot_from}
 use Rattle.mt_site.proofs.ShowLemmas.{lane_told}
 use Rattle.mt_site.proofs.show.shown_lane.Goals as goal
 

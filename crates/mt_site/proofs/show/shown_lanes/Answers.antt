@@ -2,7 +2,7 @@
 use Rattle.std.proofs.Common.{◌≡◌, ◌+◌, ap, arith, length, map, rules, ◌∙◌}
 use Rattle.std.proofs.lemmas.List.{length_push, map-append, take_all}
 use Rattle.mt_event.specs.Events.{lane_from, lanes_from}
-use Rattle.mt_site_state.specs.Workflows.{lane_by}
+use Rattle.mt_stands.specs.Workflows.{lane_by}
 use Rattle.mt_site.proofs.ShowLemmas.{lanes-more}
 use Rattle.mt_site.proofs.show.shown_lanes.Goals as goal
 

@@ -1,7 +1,7 @@
 -- The lanes before this one are told.
 use Rattle.std.proofs.Common.{◌≡◌, length, map, take}
 use Rattle.mt_event.specs.Events.{lanes_from}
-use Rattle.mt_site_state.specs.Workflows.{lane_by}
+use Rattle.mt_stands.specs.Workflows.{lane_by}
 use Rattle.mt_site.proofs.show.shown_lanes.Given as goal
 
 abbrev pub invariant-loop-shard : goal.invariant-loop-shard

@@ -17,7 +17,7 @@ returns-in_default c =
     let from = sym (c.behind_start-from.ensures ∙ ap (λ n. behind_start n c.args.behind) c.first_key.ensures) in
     elim c.in_default.branch [
       | in_default-via-in-Some+else-holds w ↦
-          sym (in-past c.args.source.now c.args.keys.now c.args.table.now c.args.behind (w.in-Some.key, w.in-Some.value.now) c.what_holds.ensures
+          sym (in-past c.args.source.now c.args.keys.now c.args.table.now c.args.behind (w.in-Some.key, w.in-Some.value.now) c.facts.ensures
           (ap (next_row c.args.source.now c.args.table.now) from ∙ sym w.in-Some.ensures) (sym w.holds.ensures ∙ w.if-holds.false))
       | in_default-via-in_default w ↦
           sym (in-none c.args.source.now c.args.keys.now c.args.table.now c.args.behind (ap (next_row c.args.source.now c.args.table.now) from ∙ sym w.in_default.ensures))

@@ -21,7 +21,7 @@ returns-in-Some c =
     let copied = copied_from c.args.tables.now c.args.range in
     let read = get_or_read tables place c.index-tables-place.result below c.index-tables-place.is [] in
     let next : next_in c.args.source.now c.args.keys.now (get_or tables place []) c.loop-place.behind ≡ Some (c.in-Some.key, c.in-Some.value.now) = ap (λ t. next_in c.args.source.now c.args.keys.now t c.loop-place.behind) (sym read) ∙ sym c.in-Some.ensures in
-    (below, left-found c.args.source.now c.args.keys.now tables copied place c.loop-place.behind below c.loop-place.invariant (c.in-Some.key, c.in-Some.value.now) c.what_holds.ensures (distinct_from tables c.requires.distinct) next)
+    (below, left-found c.args.source.now c.args.keys.now tables copied place c.loop-place.behind below c.loop-place.invariant (c.in-Some.key, c.in-Some.value.now) c.facts.ensures (distinct_from tables c.requires.distinct) next)
 
 pub loop-place-preserved : goal.loop-place-preserved
 loop-place-preserved c =

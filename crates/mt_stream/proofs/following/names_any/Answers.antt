@@ -1,6 +1,6 @@
 -- The entries from the position on that are left.
 use Rattle.std.proofs.Common.{refl, sym, ◌∙◌, arith}
-use Rattle.mt_log.proofs.ReadLemmas.{from_end, from_end_next, from_entry}
+use Rattle.mt_store.proofs.ReadLemmas.{from_end, from_end_next, from_entry}
 use Rattle.mt_stream.proofs.following.names_any.Goals.{in-Some+else-is_about, in_default}
 use Rattle.mt_stream.proofs.following.names_any.Goals as goal
 

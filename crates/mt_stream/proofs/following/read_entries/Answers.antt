@@ -1,9 +1,9 @@
 -- Each entry is read in its turn.
 use Rattle.std.proofs.Common.{◌≡◌, ◌+◌, ◌||◌, Bool, Some, None, slice_get, sym, ap, subst, ◌∙◌}
-use Rattle.mt_log.specs.Log.{entry_in}
+use Rattle.mt_store.specs.Log.{entry_in}
 use Rattle.mt_primary.specs.Reads.{entries_from}
 use Rattle.mt_stream.specs.Streams.{copied_from}
-use Rattle.mt_log.proofs.ReadLemmas.{get_past}
+use Rattle.mt_store.proofs.ReadLemmas.{get_past}
 use Rattle.mt_stream.proofs.ReadLemmas.{Reading, read-none, read-to_end, read-to_fault, reading-more}
 use Rattle.mt_stream.proofs.following.read_entries.Goals.{then-written, else-written}
 use Rattle.mt_stream.proofs.following.read_entries.Goals as goal

@@ -2,7 +2,7 @@
 use Rattle.std.proofs.Common.{◌≡◌, ◌∙◌, [], ◌∷◌, ap, sym, subst}
 use Rattle.mt_model.specs.Topology.{routes_of}
 use Rattle.mt_routes.specs.Publications.{publication}
-use Rattle.mt_site_state.specs.Ways.{SiteState}
+use Rattle.mt_stands.specs.Ways.{CoreState}
 use Rattle.mt_desk.specs.Fronts.{AreFronts}
 use Rattle.mt_desk.specs.Histories.{Leads}
 use Rattle.mt_desk.proofs.FrontLemmas.{first_front}
@@ -15,7 +15,7 @@ invariant_of-result g c =
     let opening = g.D.DeskName.opening in
     let core = c.args.core in
     let history = c.args.history in
-    let first : c.args.told ≡ publication 0 (routes_of opening.core.topology) ∷ [] = c.requires.first ∙ ap (λ (s : SiteState). publication 0 (routes_of s.core.topology) ∷ []) c.requires.opening in
+    let first : c.args.told ≡ publication 0 (routes_of opening.base.topology) ∷ [] = c.requires.first ∙ ap (λ (s : CoreState). publication 0 (routes_of s.base.topology) ∷ []) c.requires.opening in
     record {
       legal = subst (λ lines. ∥ Leads scopes opening lines core ∥₁) (sym c.requires.none) (kept_nowhere scopes opening core c.requires.opening c.requires.stood);
       room = c.requires.room;

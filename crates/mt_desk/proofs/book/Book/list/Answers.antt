@@ -18,7 +18,7 @@ invariant_of-self g c =
     let opening = g.D.DeskName.opening in
     let book = c.args.self.now in
     let lines = book.history.items in
-    let all = routes_of book.core.core.topology in
+    let all = routes_of book.core.base.topology in
     let len : c.len.result ≡ length lines = search (c.len.ensures) in
     let listed : MatchBool c.listed.result (c.listed.new.told ≡ book.told ++ publication (length lines) all ∷ []) (c.listed.new.told ≡ book.told)
     = subst (λ (m : ℕ). MatchBool c.listed.result (c.listed.new.told ≡ book.told ++ publication m all ∷ []) (c.listed.new.told ≡ book.told)) len

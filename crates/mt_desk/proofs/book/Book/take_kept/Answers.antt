@@ -4,8 +4,8 @@ use Rattle.std.proofs.lemmas.Bool.{true≢false}
 use Rattle.std.specs.Vec.{vec_capacity, vec_len}
 use Rattle.mt_event.specs.Events.{answer_from, event_of}
 use Rattle.mt_site.specs.Owed.{owed_to}
-use Rattle.mt_site.specs.Stood.{IsSiteWith}
-use Rattle.mt_site_state.specs.Ways.{SiteSteps}
+use Rattle.mt_site.specs.Stood.{IsCoreWith}
+use Rattle.mt_stands.specs.Ways.{CoreSteps}
 use Rattle.mt_desk.specs.Fronts.{AreFronts}
 use Rattle.mt_desk.specs.Histories.{Leads, line}
 use Rattle.mt_desk.specs.Room.{HasRoom, gives_up}
@@ -49,15 +49,15 @@ invariant_of-self-2 g c =
     let is : c.make_room.result ≡ true = search (c.if-not-make_room.false) in
     let before : ∥ Leads scopes opening c.make_room.new.history.items now ∥₁
     = subst (λ lines. ∥ Leads scopes opening lines now ∥₁) (sym c.make_room.ensures.items) c.args.self.now.legal in
-    let step : SiteSteps scopes now event answer later = subst (λ s. SiteSteps s now event answer later) c.requires.scopes c.answered-answer.ensures.steps in
+    let step : CoreSteps scopes now event answer later = subst (λ s. CoreSteps s now event answer later) c.requires.scopes c.answered-answer.ensures.steps in
     let laws : Owing = record {
       undone = c.each_event_owes_one_at_most.ensures.undo;
       cancelled = c.each_event_owes_one_at_most.ensures.cancel;
       any = c.each_event_owes_one_at_most.ensures.others;
-      same = c.a_core_owes_what_its_state_owes.ensures.same;
+      same = c.a_base_owes_what_its_state_owes.ensures.same;
     } in
-    let others : gives_up now event ≡ false → n + owed_to now.core.workflows + 2 ≤ more = λ isnt. c.make_room.ensures.others isnt is in
-    let stood : IsSiteWith scopes now = stands_now scopes opening now c.make_room.new.history.items before in
+    let others : gives_up now event ≡ false → n + owed_to now.base.workflows + 2 ≤ more = λ isnt. c.make_room.ensures.others isnt is in
+    let stood : IsCoreWith scopes now = stands_now scopes opening now c.make_room.new.history.items before in
     let room : HasRoom (n + 1) later more
     = room_taken laws scopes now later stood event answer step c.answered-answer.ensures.given_up n (vec_capacity c.args.self.now.history) more c.args.self.now.room
     c.make_room.ensures.kept others in
@@ -79,7 +79,7 @@ invariant_of-self-2 g c =
 pub answered-answer-requires-clause-stood : goal.answered-answer-requires-clause-stood
 answered-answer-requires-clause-stood g c =
     let now = c.args.self.now.core in
-    subst (λ scopes. IsSiteWith scopes now) (sym c.requires.scopes) (stands_now g.D.DeskName.scopes g.D.DeskName.opening now c.args.self.now.history.items c.args.self.now.legal)
+    subst (λ scopes. IsCoreWith scopes now) (sym c.requires.scopes) (stands_now g.D.DeskName.scopes g.D.DeskName.opening now c.args.self.now.history.items c.args.self.now.legal)
 
 pub answered-answer-requires-clause-ours : goal.answered-answer-requires-clause-ours
 answered-answer-requires-clause-ours g c = λ isnt.

@@ -21,9 +21,9 @@ returns-then-not-write-clause-pending g c =
     let changes = subst (λ t. Changes (pending_of c.args.routes.now.shown) t notice) c.topology-2.ensures c.in-Ok.ensures.changes in
     elim c.then-not-write.branch [
       | then-not-write-via-then-not-write w ↦
-          leaves _ _ c.args.self.now.core.core.topology notice c.as_slice.result.now written changes (some.0, ap (λ r. pending_of r.shown) w.routes-is ∙ some.1)
+          leaves _ _ c.args.self.now.core.base.topology notice c.as_slice.result.now written changes (some.0, ap (λ r. pending_of r.shown) w.routes-is ∙ some.1)
       | then-not-write-via-else-not-write+then-not-make_room w ↦
-          leaves _ _ c.args.self.now.core.core.topology notice c.as_slice.result.now written changes (some.0, ap (λ r. pending_of r.shown) w.routes-is ∙ (ap pending_of w.make_room.ensures ∙ some.1))
+          leaves _ _ c.args.self.now.core.base.topology notice c.as_slice.result.now written changes (some.0, ap (λ r. pending_of r.shown) w.routes-is ∙ (ap pending_of w.make_room.ensures ∙ some.1))
     ]
 
 pub returns-then-not-list-clause-pending : goal.returns-then-not-list-clause-pending
@@ -32,11 +32,11 @@ returns-then-not-list-clause-pending g c =
     let written : c.as_slice.result.now ≡ notice = search rules in
     let some = c.write.ensures.some in
     let changes = subst (λ t. Changes (pending_of c.args.routes.now.shown) t notice) c.topology-2.ensures c.in-Ok.ensures.changes in
-    leaves _ _ c.args.self.now.core.core.topology notice c.as_slice.result.now written changes (some.0, ap pending_of c.make_room.ensures ∙ some.1)
+    leaves _ _ c.args.self.now.core.base.topology notice c.as_slice.result.now written changes (some.0, ap pending_of c.make_room.ensures ∙ some.1)
 
 pub publish-requires : goal.publish-requires
 publish-requires g c =
-    let t = c.args.self.now.core.core.topology in
+    let t = c.args.self.now.core.base.topology in
     let notice = c.in-Ok.noticed.1 in
     let written : c.as_slice.result.now ≡ notice = search rules in
     let changes = subst (λ x. Changes (pending_of c.args.routes.now.shown) x notice) c.topology-2.ensures c.in-Ok.ensures.changes in
@@ -54,7 +54,7 @@ returns-clause-shows g c =
 
 pub returns-clause-agrees : goal.returns-clause-agrees
 returns-clause-agrees g c =
-    let t = c.args.self.now.core.core.topology in
+    let t = c.args.self.now.core.base.topology in
     let notice = c.in-Ok.noticed.1 in
     let written : c.as_slice.result.now ≡ notice = search rules in
     let changes = subst (λ x. Changes (pending_of c.args.routes.now.shown) x notice) c.topology-2.ensures c.in-Ok.ensures.changes in

@@ -3,7 +3,7 @@ use Rattle.std.proofs.Common.{◌≡◌, None, ◌++◌, ◌∷◌, [], refl, ap
 use Rattle.indexmap.proofs.CallerLemmas.{insert_entry-new}
 use Rattle.mt_names.proofs.EntryLemmas.{none_from}
 use Rattle.mt_names.specs.Names.{same_text}
-use Rattle.mt_log.specs.Log.{log_end}
+use Rattle.mt_store.specs.Log.{log_end}
 use Rattle.mt_primary.specs.Primary.{PrimaryState, new_table, table_at}
 use Rattle.mt_primary.proofs.PrimaryLemmas.{IsPrimary-new_table}
 use Rattle.mt_primary.proofs.primary.Primary.create_table.Goals as goal

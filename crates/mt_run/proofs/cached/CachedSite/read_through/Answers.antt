@@ -5,7 +5,7 @@ use Rattle.mt_model.specs.Topology.{resolution}
 use Rattle.mt_plain.specs.Events.{read}
 use Rattle.mt_plain.specs.Serve.{served}
 use Rattle.mt_site.specs.ByHand.{read_from}
-use Rattle.mt_site_state.specs.Ways.{SiteSteps}
+use Rattle.mt_stands.specs.Ways.{CoreSteps}
 use Rattle.mt_run.proofs.ThroughLemmas.{at_target, nowhere}
 use Rattle.mt_run.proofs.cached.CachedSite.read_through.Goals as goal
 
@@ -13,12 +13,12 @@ pub returns-in-Ok : goal.returns-in-Ok
 returns-in-Ok g c = λ scopes p stands.
     let core = c.args.self.now.site.core in
     let target = c.place_of-place.result.target in
-    at_target ⊤ (λ target told. SiteSteps scopes core (read target.keyspace target.table c.args.key c.args.tablet_type) (read_from told) core) (resolution (served p) c.args.name.now c.args.tablet_type) target
+    at_target ⊤ (λ target told. CoreSteps scopes core (read target.keyspace target.table c.args.key c.args.tablet_type) (read_from told) core) (resolution (served p) c.args.name.now c.args.tablet_type) target
     c.read_row.result (sym (c.in-Ok.ensures.served p scopes stands) ∙ ap Ok (sym c.place_of-place.ensures))
-    (subst (λ s. SiteSteps scopes s (read target.keyspace target.table c.args.key c.args.tablet_type) (read_from c.read_row.result) s) c.core-core.ensures (c.read_row.ensures.steps scopes))
+    (subst (λ s. CoreSteps scopes s (read target.keyspace target.table c.args.key c.args.tablet_type) (read_from c.read_row.result) s) c.core-core.ensures (c.read_row.ensures.steps scopes))
 
 pub returns-in-Err : goal.returns-in-Err
 returns-in-Err g c = λ scopes p stands.
     let core = c.args.self.now.site.core in
-    nowhere ⊤ (λ target told. SiteSteps scopes core (read target.keyspace target.table c.args.key c.args.tablet_type) (read_from told) core) (resolution (served p) c.args.name.now c.args.tablet_type) c.in-Err.fault
+    nowhere ⊤ (λ target told. CoreSteps scopes core (read target.keyspace target.table c.args.key c.args.tablet_type) (read_from told) core) (resolution (served p) c.args.name.now c.args.tablet_type) c.in-Err.fault
     (sym (c.in-Err.ensures.served p scopes stands)) tt

@@ -5,22 +5,22 @@ use Rattle.mt_model.specs.Topology.{resolution}
 use Rattle.mt_names.specs.declared.types.TabletType.TheVariants.{Primary}
 use Rattle.mt_plain.specs.Events.{write}
 use Rattle.mt_plain.specs.Serve.{served}
-use Rattle.mt_site.proofs.SiteLemmas.{stands_core}
-use Rattle.mt_site_state.specs.Ways.{SiteSteps}
+use Rattle.mt_site.proofs.SiteLemmas.{stands_base}
+use Rattle.mt_stands.specs.Ways.{CoreSteps}
 use Rattle.mt_run.specs.Names.{plain_key}
 use Rattle.mt_run.proofs.NameLemmas.{is_read}
 use Rattle.mt_run.proofs.ThroughLemmas.{at_target}
 use Rattle.mt_run.proofs.cached.CachedSite.write_named.Goals as goal
 
 pub returns-in-Some-clause-name : goal.returns-in-Some-clause-name
-returns-in-Some-clause-name g c = is_read c.args.name.now (c.in-Some.ensures c.args.self.now.site.core.core.topology c.args.self.now.lead).is_name
+returns-in-Some-clause-name g c = is_read c.args.name.now (c.in-Some.ensures c.args.self.now.site.core.base.topology c.args.self.now.lead).is_name
 
 pub returns-in-Some-clause-told : goal.returns-in-Some-clause-told
 returns-in-Some-clause-told g c = λ scopes p stands.
     let old = c.args.self.now.site.core in
     let new = c.write_row.new.self.core in
     let key = plain_key c.args.name.now in
-    let serves = c.a_core_tells_what_its_state_serves.ensures.look_up p old.core (stands_core p scopes old stands) key Primary in
-    let leads = (c.in-Some.ensures old.core.topology c.args.self.now.lead).leads in
-    at_target (new ≡ old) (λ target told. SiteSteps scopes old (write target.keyspace target.table c.args.op) (done_by told) new) (resolution (served p) key Primary) c.in-Some.place.now.target c.write_row.result
+    let serves = c.a_base_tells_what_its_state_serves.ensures.look_up p old.base (stands_base p scopes old stands) key Primary in
+    let leads = (c.in-Some.ensures old.base.topology c.args.self.now.lead).leads in
+    at_target (new ≡ old) (λ target told. CoreSteps scopes old (write target.keyspace target.table c.args.op) (done_by told) new) (resolution (served p) key Primary) c.in-Some.place.now.target c.write_row.result
     (sym serves ∙ leads) (c.write_row.ensures.steps scopes)

@@ -2,9 +2,9 @@
 use Rattle.std.proofs.Common.{◌≡◌, sym}
 use Rattle.std.specs.Result.{OnErr}
 use Rattle.mt_event.specs.Events.{answer_from, event_of}
-use Rattle.mt_site_state.specs.Ways.{SiteSteps}
+use Rattle.mt_stands.specs.Ways.{CoreSteps}
 use Rattle.mt_plain.specs.Events.{done}
-use Rattle.mt_site_state.specs.Purges.{IsPurged}
+use Rattle.mt_stands.specs.Purges.{IsPurged}
 use Rattle.mt_site.specs.Applies.{AppliesAndPurges}
 use Rattle.mt_site.specs.GivenUp.{CanBeGivenUp}
 use Rattle.mt_site.proofs.RunLemmas.{one_kept}
@@ -16,10 +16,10 @@ use Rattle.mt_site.proofs.controller.Core.apply.Goals as goal
 
 did : (g : Over) (c : goal.After-every_run_keeps_the_headline g)
     → AppliesAndPurges (g.W.Asks.scopes c.args.watchers.now) (g.W.Asks.may_answer c.args.watchers.now) c.args.self.now (event_of c.args.event.now) (answer_from c.match-of.told) c.match-of.self
-    × SiteSteps (g.W.Asks.scopes c.args.watchers.now) c.args.self.now (event_of c.args.event.now) (answer_from c.match-of.told) c.match-of.self
+    × CoreSteps (g.W.Asks.scopes c.args.watchers.now) c.args.self.now (event_of c.args.event.now) (answer_from c.match-of.told) c.match-of.self
     × OnErr c.match-of.told (c.match-of.self ≡ c.args.self.now)
     × (CanBeGivenUp c.args.self.now (event_of c.args.event.now) → answer_from c.match-of.told ≡ done)
-    × (IsPurged c.args.self.now.core → IsPurged c.match-of.self.core)
+    × (IsPurged c.args.self.now.base → IsPurged c.match-of.self.base)
 did g c = elim c.match-of.branch [
   | in-Some w ↦ rw (w.told-is, w.self-is, w.done-told.ensures.answer, sym w.in-Some.ensures.event) (w.command.ensures.applies, w.command.ensures.steps, refused_as _ w.done-told.result w.command.result w.done-told.ensures.ok w.command.ensures.unchanged, w.command.ensures.given_up, w.command.ensures.purged)
   | in-None w ↦ rw (w.told-is, w.self-is) (w.apply_other-told.ensures.applies, w.apply_other-told.ensures.steps, w.apply_other-told.ensures.unchanged, w.apply_other-told.ensures.given_up, w.apply_other-told.ensures.purged)

@@ -3,8 +3,8 @@
 use Rattle.std.proofs.Common.{Err, refl, sym, ap, subst, ◌∙◌}
 use Rattle.mt_event.specs.Reasons.{done_by, reason_from}
 use Rattle.mt_plain.specs.Events.{done, refused}
-use Rattle.mt_site_state.specs.Purges.{IsPurged}
-use Rattle.mt_site_state.specs.Ways.{SiteSteps}
+use Rattle.mt_stands.specs.Purges.{IsPurged}
+use Rattle.mt_stands.specs.Ways.{CoreSteps}
 use Rattle.mt_site.specs.Applies.{Applies}
 use Rattle.mt_site.specs.Commands.{event_of_command}
 use Rattle.mt_site.proofs.PurgeLemmas.{command_purges, site_of}
@@ -16,7 +16,7 @@ pub returns-in-Ok-clause-applies : goal.returns-in-Ok-clause-applies
 returns-in-Ok-clause-applies g c = (
   c.do_command.new.self,
   subst (λ r. Applies (g.W.Asks.scopes c.args.watchers.now) (g.W.Asks.may_answer c.args.watchers.now) c.args.self.now (event_of_command c.args.command) (done_by r) c.do_command.new.self) c.in-Ok.is c.do_command.ensures.applies,
-  command_purges c.args.command done c.do_command.new.self c.purge.new.self c.purge.ensures.core c.purge.ensures.ways,
+  command_purges c.args.command done c.do_command.new.self c.purge.new.self c.purge.ensures.base c.purge.ensures.ways,
 )
 
 pub returns-in-Ok-clause-steps : goal.returns-in-Ok-clause-steps
@@ -25,10 +25,10 @@ returns-in-Ok-clause-steps g c =
     let event = event_of_command c.args.command in
     let made = c.do_command.new.self in
     let new = c.purge.new.self in
-    subst (SiteSteps scopes c.args.self.now event done) (site_of made new c.purge.ensures.ways)
-    (c.a_purged_site_stands.ensures.steps scopes c.args.self.now made event done new.core
-    (subst (λ r. SiteSteps scopes c.args.self.now event (done_by r) made) c.in-Ok.is c.do_command.ensures.steps)
-    (c.a_purged_core_stands.ensures.all made.core new.core done c.purge.ensures.core))
+    subst (CoreSteps scopes c.args.self.now event done) (site_of made new c.purge.ensures.ways)
+    (c.a_purged_core_stands.ensures.steps scopes c.args.self.now made event done new.base
+    (subst (λ r. CoreSteps scopes c.args.self.now event (done_by r) made) c.in-Ok.is c.do_command.ensures.steps)
+    (c.a_purged_base_stands.ensures.all made.base new.base done c.purge.ensures.base))
 
 pub returns-in-Ok-clause-given_up : goal.returns-in-Ok-clause-given_up
 returns-in-Ok-clause-given_up g c = λ can. refl
@@ -41,7 +41,7 @@ returns-in-Ok-clause-stood g c =
     stood_next (g.W.Asks.scopes c.args.watchers.now) _ _ (event_of_command c.args.command) done (returns-in-Ok-clause-steps g c)
 
 pub returns-in-Ok-clause-purged : goal.returns-in-Ok-clause-purged
-returns-in-Ok-clause-purged g c = λ was. subst IsPurged (sym c.purge.ensures.core) (c.what_is_purged_stays_purged.ensures.all c.do_command.new.self.core)
+returns-in-Ok-clause-purged g c = λ was. subst IsPurged (sym c.purge.ensures.base) (c.what_is_purged_stays_purged.ensures.all c.do_command.new.self.base)
 
 pub returns-in-Err-clause-applies : goal.returns-in-Err-clause-applies
 returns-in-Err-clause-applies g c = (
@@ -52,7 +52,7 @@ returns-in-Err-clause-applies g c = (
 
 pub returns-in-Err-clause-steps : goal.returns-in-Err-clause-steps
 returns-in-Err-clause-steps g c =
-    subst (λ r. SiteSteps (g.W.Asks.scopes c.args.watchers.now) c.args.self.now (event_of_command c.args.command) (done_by r) c.do_command.new.self) c.in-Err.is c.do_command.ensures.steps
+    subst (λ r. CoreSteps (g.W.Asks.scopes c.args.watchers.now) c.args.self.now (event_of_command c.args.command) (done_by r) c.do_command.new.self) c.in-Err.is c.do_command.ensures.steps
 
 pub returns-in-Err-clause-given_up : goal.returns-in-Err-clause-given_up
 returns-in-Err-clause-given_up g c = λ can.

@@ -2,9 +2,9 @@
 use Rattle.std.proofs.Common.{◌≡◌, [], refl, subst}
 use Rattle.std.specs.Result.{OnErr}
 use Rattle.mt_plain.specs.Events.{advance}
-use Rattle.mt_site_state.specs.Core.{CoreState, workflow_at}
-use Rattle.mt_site_state.specs.Ways.{SiteState, SiteSteps}
-use Rattle.mt_site_state.specs.Workflows.{AdvancesWorkflow}
+use Rattle.mt_stands.specs.Base.{BaseState, workflow_at}
+use Rattle.mt_stands.specs.Ways.{CoreState, CoreSteps}
+use Rattle.mt_stands.specs.Workflows.{AdvancesWorkflow}
 use Rattle.mt_workflow.specs.Workflows.{stream_name}
 use Rattle.mt_site.specs.Advance.{advanced_from}
 use Rattle.mt_site.proofs.CoreLemmas.{can_advance}
@@ -14,40 +14,40 @@ use Rattle.mt_site.proofs.controller.Core.do_advance.Goals as goal
 
 pub advance-requires : goal.advance-requires
 advance-requires c =
-    let old : SiteState = site c.self.inside.topology c.self.inside.primaries c.self.inside.workflows.entries c.self.inside.opened.entries c.self.inside.journal c.self.inside.begun in
-    let core = c.a_site_stays_one.ensures.core old c.self.invariant in
-    let place = c.workflows_of_a_core_stand_in_place.ensures in
-    let shards = c.workflows_of_a_core_know_their_shards.ensures in
-    let streams = c.streams_of_a_core_lie_in_their_logs.ensures in
-    can_advance old.core c.args.workflow.now (stream_name c.args.asked.slot) c.args.asked.shard (place.named old.core core) (shards.source old.core core) (shards.lanes old.core core) (place.apart old.core core)
-    (place.at_source old.core core) (place.at_target old.core core) (streams.tables old.core core) (streams.position old.core core) (streams.kept old.core core)
+    let old : CoreState = site c.self.inside.topology c.self.inside.primaries c.self.inside.workflows.entries c.self.inside.opened.entries c.self.inside.journal c.self.inside.begun in
+    let core = c.a_core_stays_one.ensures.base old c.self.invariant in
+    let place = c.workflows_of_a_base_stand_in_place.ensures in
+    let shards = c.workflows_of_a_base_know_their_shards.ensures in
+    let streams = c.streams_of_a_base_lie_in_their_logs.ensures in
+    can_advance old.base c.args.workflow.now (stream_name c.args.asked.slot) c.args.asked.shard (place.named old.base core) (shards.source old.base core) (shards.lanes old.base core) (place.apart old.base core)
+    (place.at_source old.base core) (place.at_target old.base core) (streams.tables old.base core) (streams.position old.base core) (streams.kept old.base core)
 
 pub invariant_of-self : goal.invariant_of-self
 invariant_of-self c =
-    let old : SiteState = site c.self.inside.topology c.self.inside.primaries c.self.inside.workflows.entries c.self.inside.opened.entries c.self.inside.journal c.self.inside.begun in
-    let core : CoreState = record old.core { primaries = c.advance.new.primaries; workflows = c.advance.new.workflows.entries } in
-    c.a_site_stays_one.ensures.stays [] old (record old { core = core }) (advance c.args.workflow.now (stream_name c.args.asked.slot) c.args.asked.shard c.args.asked.at c.args.asked.max) (advanced_from c.advance.result) tt
+    let old : CoreState = site c.self.inside.topology c.self.inside.primaries c.self.inside.workflows.entries c.self.inside.opened.entries c.self.inside.journal c.self.inside.begun in
+    let core : BaseState = record old.base { primaries = c.advance.new.primaries; workflows = c.advance.new.workflows.entries } in
+    c.a_core_stays_one.ensures.stays [] old (record old { base = core }) (advance c.args.workflow.now (stream_name c.args.asked.slot) c.args.asked.shard c.args.asked.at c.args.asked.max) (advanced_from c.advance.result) tt
     (λ more. c.events_on_workflows_step_and_leave_the_ways.ensures.advance _ old core c.args.workflow.now (stream_name c.args.asked.slot) c.args.asked.shard c.args.asked.at c.args.asked.max (advanced_from c.advance.result) (c.advance.ensures core.topology) c.each_is_a_primary.ensures) c.self.invariant
 
 pub returns-clause-does : goal.returns-clause-does
 returns-clause-does c =
-    let core : CoreState = record { topology = c.self.inside.topology; primaries = c.advance.new.primaries; workflows = c.advance.new.workflows.entries } in
-    subst (λ s. AdvancesWorkflow s.core c.args.workflow.now (stream_name c.args.asked.slot) c.args.asked.shard c.args.asked.at c.args.asked.max (advanced_from c.advance.result) core) c.self.view_is (c.advance.ensures core.topology)
+    let core : BaseState = record { topology = c.self.inside.topology; primaries = c.advance.new.primaries; workflows = c.advance.new.workflows.entries } in
+    subst (λ s. AdvancesWorkflow s.base c.args.workflow.now (stream_name c.args.asked.slot) c.args.asked.shard c.args.asked.at c.args.asked.max (advanced_from c.advance.result) core) c.self.view_is (c.advance.ensures core.topology)
 
 pub returns-clause-steps : goal.returns-clause-steps
 returns-clause-steps c = λ scopes.
-    let old : SiteState = site c.self.inside.topology c.self.inside.primaries c.self.inside.workflows.entries c.self.inside.opened.entries c.self.inside.journal c.self.inside.begun in
-    let core : CoreState = record old.core { primaries = c.advance.new.primaries; workflows = c.advance.new.workflows.entries } in
+    let old : CoreState = site c.self.inside.topology c.self.inside.primaries c.self.inside.workflows.entries c.self.inside.opened.entries c.self.inside.journal c.self.inside.begun in
+    let core : BaseState = record old.base { primaries = c.advance.new.primaries; workflows = c.advance.new.workflows.entries } in
     let told = advanced_from c.advance.result in
-    subst (λ s. SiteSteps scopes s (advance c.args.workflow.now (stream_name c.args.asked.slot) c.args.asked.shard c.args.asked.at c.args.asked.max) told (record old { core = core })) c.self.view_is
+    subst (λ s. CoreSteps scopes s (advance c.args.workflow.now (stream_name c.args.asked.slot) c.args.asked.shard c.args.asked.at c.args.asked.max) told (record old { base = core })) c.self.view_is
     (c.events_on_workflows_step_and_leave_the_ways.ensures.advance scopes old core c.args.workflow.now (stream_name c.args.asked.slot) c.args.asked.shard c.args.asked.at c.args.asked.max told (c.advance.ensures core.topology) c.each_is_a_primary.ensures)
 
 pub returns-clause-unchanged : goal.returns-clause-unchanged
 returns-clause-unchanged c =
-    let old : SiteState = site c.self.inside.topology c.self.inside.primaries c.self.inside.workflows.entries c.self.inside.opened.entries c.self.inside.journal c.self.inside.begun in
-    let core : CoreState = record old.core { primaries = c.advance.new.primaries; workflows = c.advance.new.workflows.entries } in
-    let place = c.workflows_of_a_core_stand_in_place.ensures in
-    let is = c.a_site_stays_one.ensures.core old c.self.invariant in
-    subst (λ s. OnErr c.advance.result (whole core old.ways ≡ s)) c.self.view_is (lifted c.advance.result old.ways core old.core
-    (advances_leave old.core core c.args.workflow.now (stream_name c.args.asked.slot) c.args.asked.shard c.args.asked.at c.args.asked.max (place.named old.core is c.args.workflow.now)
-    c.advance.result (workflow_at old.core.workflows c.args.workflow.now) refl (c.advance.ensures core.topology)))
+    let old : CoreState = site c.self.inside.topology c.self.inside.primaries c.self.inside.workflows.entries c.self.inside.opened.entries c.self.inside.journal c.self.inside.begun in
+    let core : BaseState = record old.base { primaries = c.advance.new.primaries; workflows = c.advance.new.workflows.entries } in
+    let place = c.workflows_of_a_base_stand_in_place.ensures in
+    let is = c.a_core_stays_one.ensures.base old c.self.invariant in
+    subst (λ s. OnErr c.advance.result (whole core old.ways ≡ s)) c.self.view_is (lifted c.advance.result old.ways core old.base
+    (advances_leave old.base core c.args.workflow.now (stream_name c.args.asked.slot) c.args.asked.shard c.args.asked.at c.args.asked.max (place.named old.base is c.args.workflow.now)
+    c.advance.result (workflow_at old.base.workflows c.args.workflow.now) refl (c.advance.ensures core.topology)))

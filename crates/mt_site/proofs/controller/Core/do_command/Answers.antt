@@ -2,7 +2,7 @@
 use Rattle.std.proofs.Common.{List, ℕ, subst}
 use Rattle.mt_event.specs.Reasons.{done_by}
 use Rattle.mt_primary.specs.Primary.{IsPrimary}
-use Rattle.mt_primaries.specs.Primaries.{primary_of}
+use Rattle.mt_primary.specs.Primaries.{primary_of}
 use Rattle.mt_site.specs.Applies.{Applies, BringsBounds}
 use Rattle.mt_site.specs.Commands.{event_of_command}
 use Rattle.mt_site.proofs.controller.Core.do_command.Goals.{in-AddKeyspace, in-AddTable, in-EditRule, in-BeginSwitch, in-BeginReverse, in-Step, in-Undo, in-Cancel, in-Complete}
@@ -37,4 +37,4 @@ returns-clause-steps g c =
       | in-Cancel w ↦ rw w.in-Cancel.is tt
       | in-Complete w ↦ rw w.in-Complete.is tt
     ] in
-    c.an_applied_event_steps.ensures old new event told applies bounds (subst (λ s. (keyspace : List ℕ) (shard : ℕ) → IsPrimary (primary_of s.core.primaries keyspace shard)) c.self.view_is c.each_is_a_primary.ensures)
+    c.an_applied_event_steps.ensures old new event told applies bounds (subst (λ s. (keyspace : List ℕ) (shard : ℕ) → IsPrimary (primary_of s.base.primaries keyspace shard)) c.self.view_is c.each_is_a_primary.ensures)

@@ -2,14 +2,14 @@
 use Rattle.std.proofs.Common.{ap, string_bytes, subst, sym, ◌∙◌}
 use Rattle.mt_model.specs.Documents.{rules_text}
 use Rattle.mt_plain.specs.Serve.{served}
-use Rattle.mt_site_state.specs.Ways.{SiteStands, SiteState}
-use Rattle.mt_site.proofs.SiteLemmas.{site, stands_core, text_served}
+use Rattle.mt_stands.specs.Ways.{CoreStands, CoreState}
+use Rattle.mt_site.proofs.SiteLemmas.{site, stands_base, text_served}
 use Rattle.mt_site.proofs.controller.Core.rules_json.Goals as goal
 
 pub returns-clause-served : goal.returns-clause-served
 returns-clause-served c = λ p scopes stands.
-    let old : SiteState = site c.self.inside.topology c.self.inside.primaries c.self.inside.workflows.entries c.self.inside.opened.entries c.self.inside.journal c.self.inside.begun in
-    let here : SiteStands p scopes old = subst (λ s. SiteStands p scopes s) (sym c.self.view_is) stands in
+    let old : CoreState = site c.self.inside.topology c.self.inside.primaries c.self.inside.workflows.entries c.self.inside.opened.entries c.self.inside.journal c.self.inside.begun in
+    let here : CoreStands p scopes old = subst (λ s. CoreStands p scopes s) (sym c.self.view_is) stands in
     text_served string_bytes c.to_json.result (rules_text c.rules.result.now) (rules_text (served p).rules)
     (ap rules_text c.rules.ensures
-    ∙ c.a_core_tells_what_its_state_serves.ensures.rules p old.core (c.a_site_stays_one.ensures.core old c.self.invariant) (stands_core p scopes old here)) c.to_json.ensures.text
+    ∙ c.a_base_tells_what_its_state_serves.ensures.rules p old.base (c.a_core_stays_one.ensures.base old c.self.invariant) (stands_base p scopes old here)) c.to_json.ensures.text

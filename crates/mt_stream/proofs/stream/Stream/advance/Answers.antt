@@ -10,7 +10,7 @@ returns-clause-advances c = grind (arith, common_steps)
 pub returns-clause-follows : goal.returns-clause-follows
 returns-clause-follows c =
     let distinct = subst (λ s. AllPairs (λ a b. a ≢ b) s.tables) c.self.view_is c.self.invariant.distinct in
-    follows-advanced c.args.self.now _ c.args.source.now c.args.sink.now c.copy_rows.new.sink c.args.max _ c.what_holds.ensures (c.requires.kept (search rules)) distinct (returns-clause-advances c).1
+    follows-advanced c.args.self.now _ c.args.source.now c.args.sink.now c.copy_rows.new.sink c.args.max _ c.facts.ensures (c.requires.kept (search rules)) distinct (returns-clause-advances c).1
 
 pub returns-then-self-position-clause-advances : goal.returns-then-self-position-clause-advances
 returns-then-self-position-clause-advances c = grind (arith, common_steps)
@@ -18,4 +18,4 @@ returns-then-self-position-clause-advances c = grind (arith, common_steps)
 pub returns-then-self-position-clause-follows : goal.returns-then-self-position-clause-follows
 returns-then-self-position-clause-follows c =
     let distinct = subst (λ s. AllPairs (λ a b. a ≢ b) s.tables) c.self.view_is c.self.invariant.distinct in
-    follows-advanced c.args.self.now _ c.args.source.now c.args.sink.now c.read_entries.new.sink c.args.max _ c.what_holds.ensures (c.requires.kept (search rules)) distinct (returns-then-self-position-clause-advances c).1
+    follows-advanced c.args.self.now _ c.args.source.now c.args.sink.now c.read_entries.new.sink c.args.max _ c.facts.ensures (c.requires.kept (search rules)) distinct (returns-then-self-position-clause-advances c).1

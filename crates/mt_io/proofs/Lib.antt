@@ -1,3 +1,0 @@
-pub mod GoesLemmas
-pub mod KnownLemmas
-pub mod ReadLemmas

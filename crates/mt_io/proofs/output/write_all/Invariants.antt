@@ -1,6 +1,0 @@
--- What is left has not gone out.
-use Rattle.mt_io.specs.Bytes.{GoesOut}
-use Rattle.mt_io.proofs.output.write_all.Given as goal
-
-abbrev pub invariant-loop : goal.invariant-loop
-invariant-loop g l = GoesOut (g.W.Write.contents l.fn.writer) (g.W.Write.contents l.writer) l.fn.bytes l.rest

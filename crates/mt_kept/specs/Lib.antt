@@ -1,4 +1,0 @@
-pub mod Answers
-pub mod Events
-pub mod Ops
-pub mod Rooms

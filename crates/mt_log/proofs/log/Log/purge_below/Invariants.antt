@@ -1,6 +1,0 @@
-use Rattle.std.proofs.Common.{◌≡◌, ◌*◌}
-use Rattle.mt_log.specs.Log.{without_first}
-use Rattle.mt_log.proofs.log.Log.purge_below.Given as goal
-
-abbrev pub invariant-loop : goal.invariant-loop
-invariant-loop l = l.self.log ≡ without_first (256 * l.counter) l.fn.self.log

@@ -1,6 +1,0 @@
--- No pages.
-use Rattle.mt_pages.proofs.OrderLemmas.{in-order-none}
-use Rattle.mt_pages.proofs.pages.Pages.new.Goals as goal
-
-pub invariant_of-result : goal.invariant_of-result
-invariant_of-result c = rw c.new.ensures.items (record { sizes = tt; ordered = in-order-none })

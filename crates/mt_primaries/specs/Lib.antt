@@ -1,4 +1,0 @@
-pub mod Kept
-pub mod Lends
-pub mod Places
-pub mod Primaries

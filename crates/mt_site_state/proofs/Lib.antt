@@ -1,2 +1,0 @@
-pub mod LaneLemmas
-pub mod NeededLemmas

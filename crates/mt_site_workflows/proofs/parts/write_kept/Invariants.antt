@@ -1,9 +1,0 @@
--- The tables before this one are written.
-use Rattle.std.proofs.Common.{◌≡◌, map, take}
-use Rattle.mt_model.specs.Part.{part_keys, with_entries}
-use Rattle.mt_model.specs.Topology.{value_of}
-use Rattle.mt_site_topology.specs.Keys.{rules_only}
-use Rattle.mt_site_workflows.proofs.parts.write_kept.Given as goal
-
-abbrev pub invariant-loop-table : goal.invariant-loop-table
-invariant-loop-table l = l.topology ≡ with_entries l.initial.topology (map (value_of (rules_only l.workflow.kept)) (part_keys l.workflow.source l.workflow.target (take l.table-index l.workflow.tables)))

@@ -1,0 +1,12 @@
+pub mod Answers
+pub mod ByHand
+pub mod Base
+pub mod Keys
+pub mod Purges
+pub mod RowPurges
+pub mod Rows
+pub mod Stands
+pub mod Switching
+pub mod Topologies
+pub mod Ways
+pub mod Workflows
