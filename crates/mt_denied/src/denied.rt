@@ -104,10 +104,8 @@ impl TableMarks {
     pub fn reserve(&mut self, table: &TableName) -> Result<(), DeniedFault>
         ensures { Reserves self.old table.now result self.new }
     {
-        match self.make_place(table) {
-            Ok(_) => Ok(()),
-            Err(fault) => Err(fault),
-        }
+        self.make_place(table)?;
+        Ok(())
     }
 
     /// Makes a place for a table as `reserve` does, and answers whether it made one: not if the table had one. It looks a table that has

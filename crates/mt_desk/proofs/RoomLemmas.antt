@@ -21,6 +21,7 @@ use Rattle.mt_stands.specs.Base.{BaseState, Workflows, workflow_at}
 use Rattle.mt_stands.specs.Stands.{StandsWith}
 use Rattle.mt_stands.specs.Ways.{CoreStands, CoreState, CoreSteps}
 use Rattle.mt_desk.specs.Room.{HasRoom, can_cancel, can_undo, gives_up}
+use Rattle.mt_laws.proofs.OwedLemmas.{at_least_one}
 
 -- ---- what gives a move up
 
@@ -68,12 +69,6 @@ can_from s (cancel workflow) is = by (workflow_at s.base.workflows workflow) ref
 can_from s other is = absurd (true≢false (sym is))
 
 -- ---- what is owed where a move can be given up
-
-at_least_one : (w : Live) → 1 ≤ owed_by w
-at_least_one w = from (option_map_or (λ way. if stands_done way write_journal then 0 else max 1 way.done) w.way 0)
-  where
-    from : (n : ℕ) → 1 ≤ 1 + n
-    from n = omega arith
 
 one_is_owed : (ws : Workflows) (name : List ℕ) (w : WorkflowState) → workflow_at ws name ≡ Some w → 1 ≤ owed_to ws
 one_is_owed [] name w found = absurd cc

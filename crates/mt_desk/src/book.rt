@@ -221,10 +221,7 @@ impl<D: DeskName> Book<D> {
         self.core.topology().facts();
         routes_of_a_topology_say_each_of_themselves();
         what_is_written_agrees();
-        let (list, notice) = match noticed(alloc, self.core.topology(), watchers, routes) {
-            Ok(noticed) => noticed,
-            Err(fault) => return Err(fault),
-        };
+        let (list, notice) = noticed(alloc, self.core.topology(), watchers, routes)?;
         if !routes.write(notice.as_slice()) || !routes.make_room() {
             return Err(DeskFault::Memory);
         }
@@ -261,10 +258,8 @@ impl<D: DeskName> Book<D> {
         };
         let mut room = Room::new(alloc);
         make_ready(&mut room, &event)?;
-        match self.take_kept(watchers, client, &event, kept, &mut room) {
-            Ok(answer) => Ok(answer.copied()),
-            Err(fault) => Err(fault),
-        }
+        let answer = self.take_kept(watchers, client, &event, kept, &mut room)?;
+        Ok(answer.copied())
     }
 
     /// The same, with what is to be kept of the event, for which no memory is taken, and with room for one answer more, which is kept for whoever asked.

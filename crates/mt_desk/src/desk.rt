@@ -46,10 +46,7 @@ impl<D: DeskName, W: Asks + Drop, R: Wait + Drop> Desk<D, W, R> {
         ensures memory { IfErr result (λ fault. fault ≡ DeskFault.Memory) }
     {
         let (core, watchers) = site.into_parts();
-        let (book, entries) = match Book::open(alloc, blank, opened, core) {
-            Ok(made) => made,
-            Err(fault) => return Err(fault),
-        };
+        let (book, entries) = Book::open(alloc, blank, opened, core)?;
         match Ends::open(alloc, rt, &book.told(), &entries) {
             Ok(routes) => Ok(Desk {
                 alloc,
@@ -69,10 +66,8 @@ impl<D: DeskName, W: Asks + Drop, R: Wait + Drop> Desk<D, W, R> {
         ensures pass { IfOk result (λ pass. (pass.client ≡ client) × (pass.calls.items ≡ [])) }
         ensures refused { IfErr result (λ fault. (fault ≡ DeskFault.ClientTaken) ⊎ (fault ≡ DeskFault.Memory)) }
     {
-        match self.locked.lock(rt).admit(client) {
-            Ok(()) => Ok(Pass::new(self.alloc, client)),
-            Err(fault) => Err(fault),
-        }
+        self.locked.lock(rt).admit(client)?;
+        Ok(Pass::new(self.alloc, client))
     }
 
     /// Asks for an event, and adds it with its answer to what the pass lists: `K0 Memory`, where the pass or the history found no
@@ -91,14 +86,10 @@ impl<D: DeskName, W: Asks + Drop, R: Wait + Drop> Desk<D, W, R> {
             return Err(DeskFault::Memory);
         };
         let client = pass.client();
-        let taken = self
+        let told = self
             .locked
             .lock(rt)
-            .take(client, &event, line, &mut pass.room);
-        let told = match taken {
-            Ok(told) => told,
-            Err(fault) => return Err(fault),
-        };
+            .take(client, &event, line, &mut pass.room)?;
         let answer = told.copied();
         pass.add(call, told);
         Ok(answer)

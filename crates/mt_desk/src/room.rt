@@ -109,8 +109,6 @@ pub(crate) fn new_history(alloc: Global, core: &Core) -> Result<Vec<Line>, Alloc
     ensures none_live { core.now.base.workflows ≡ [] → IsOk result }
 {
     let mut history = Vec::new(alloc);
-    match history.reserve(core.owed()) {
-        Ok(()) => Ok(history),
-        Err(why) => Err(why),
-    }
+    history.reserve(core.owed())?;
+    Ok(history)
 }

@@ -2,7 +2,13 @@
 use Rattle.std.specs.Prelude.{⊤, Result, Ok, Err}
 use Rattle.mt_event.specs.declared.reason.Reason.{Reason}
 use Rattle.mt_event.specs.declared.reason.Reason.TheVariants as from
+use Rattle.mt_model.specs.declared.faults.PrimaryFault.{PrimaryFault}
+use Rattle.mt_model.specs.declared.faults.PrimaryFault.TheVariants as primary
+use Rattle.mt_model.specs.declared.faults.TopologyFault.{TopologyFault}
+use Rattle.mt_model.specs.declared.faults.TopologyFault.TheVariants as topology
 use Rattle.mt_plain.specs.Events as plain
+use Rattle.mt_stream.specs.declared.fault.StreamFault.{StreamFault}
+use Rattle.mt_stream.specs.declared.fault.StreamFault.TheVariants as stream
 
 -- the refusal that a reason is (this profile's own)
 abbrev pub reason_from : Reason → plain.Refusal
@@ -42,3 +48,33 @@ reason_from from.ShardedSource = plain.sharded_source
 abbrev pub done_by : Result ⊤ Reason → plain.Answer
 done_by (Ok done) = plain.done
 done_by (Err reason) = plain.refused (reason_from reason)
+
+-- ---- of the layers
+
+-- the reason for a refusal of a stream (this profile's own)
+abbrev pub reason_by_stream : StreamFault → Reason
+reason_by_stream stream.Memory = from.Memory
+reason_by_stream (stream.Stale position) = from.Stale position
+reason_by_stream stream.Stopped = from.StreamStopped
+reason_by_stream stream.Frozen = from.StreamStopped
+reason_by_stream stream.LogFull = from.Full
+
+-- that for one of the topology
+abbrev pub reason_by_topology : TopologyFault → Reason
+reason_by_topology topology.Memory = from.Memory
+reason_by_topology topology.NoKeyspace = from.NoKeyspace
+reason_by_topology topology.NoTable = from.NoTable
+reason_by_topology topology.Exists = from.Exists
+reason_by_topology other = from.Full
+
+-- that for one of a primary
+abbrev pub reason_by_primary : PrimaryFault → Reason
+reason_by_primary primary.Memory = from.Memory
+reason_by_primary primary.NoTable = from.NoTable
+reason_by_primary primary.Denied = from.Denied
+reason_by_primary primary.RowExists = from.RowExists
+reason_by_primary primary.NoRow = from.NoRow
+reason_by_primary primary.TooLong = from.TooLong
+reason_by_primary primary.LogFull = from.Full
+-- a write is never told this
+reason_by_primary primary.Purged = from.Full

@@ -1,4 +1,6 @@
 //! Why an event is refused, where no name is told.
+use mt_model::{PrimaryFault, TopologyFault};
+use mt_stream::StreamFault;
 use std::fmt;
 use thiserror::Error;
 
@@ -111,6 +113,60 @@ impl Reason {
             Reason::Exists => "F30 Exists",
             Reason::NoShard => "F32 NoShard",
             Reason::ShardedSource => "F33 ShardedSource",
+        }
+    }
+}
+
+impl From<StreamFault> for Reason {
+    ghost use Rattle.std.specs.Prelude.{◌≡◌};
+    ghost use Rattle.mt_event.specs.Reasons.{reason_by_stream};
+
+    ghost from_gives = { λ fault reason. reason ≡ reason_by_stream fault };
+
+    fn from(fault: StreamFault) -> Reason {
+        match fault {
+            StreamFault::Memory => Reason::Memory,
+            StreamFault::Stale(position) => Reason::Stale(position),
+            StreamFault::Stopped | StreamFault::Frozen => Reason::StreamStopped,
+            StreamFault::LogFull => Reason::Full,
+        }
+    }
+}
+
+impl From<TopologyFault> for Reason {
+    ghost use Rattle.std.specs.Prelude.{◌≡◌};
+    ghost use Rattle.mt_event.specs.Reasons.{reason_by_topology};
+
+    ghost from_gives = { λ fault reason. reason ≡ reason_by_topology fault };
+
+    fn from(fault: TopologyFault) -> Reason {
+        match fault {
+            TopologyFault::Memory => Reason::Memory,
+            TopologyFault::NoKeyspace => Reason::NoKeyspace,
+            TopologyFault::NoTable => Reason::NoTable,
+            TopologyFault::Exists => Reason::Exists,
+            TopologyFault::Ambiguous | TopologyFault::Full | TopologyFault::BadDump => Reason::Full,
+        }
+    }
+}
+
+impl From<PrimaryFault> for Reason {
+    ghost use Rattle.std.specs.Prelude.{◌≡◌};
+    ghost use Rattle.mt_event.specs.Reasons.{reason_by_primary};
+
+    ghost from_gives = { λ fault reason. reason ≡ reason_by_primary fault };
+
+    #[inline(always)]
+    fn from(fault: PrimaryFault) -> Reason {
+        match fault {
+            PrimaryFault::Memory => Reason::Memory,
+            PrimaryFault::NoTable => Reason::NoTable,
+            PrimaryFault::Denied => Reason::Denied,
+            PrimaryFault::RowExists => Reason::RowExists,
+            PrimaryFault::NoRow => Reason::NoRow,
+            PrimaryFault::TooLong => Reason::TooLong,
+            // A write is never told the second.
+            PrimaryFault::LogFull | PrimaryFault::Purged => Reason::Full,
         }
     }
 }

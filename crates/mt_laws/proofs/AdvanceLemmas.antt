@@ -29,7 +29,7 @@ use Rattle.mt_laws.proofs.WayBackLemmas.{has_part-same}
 
 -- ---- lists
 
-any-map : {X : Type 0} (test : X → Bool) (f : X → X) (xs : List X) → ((x : X) → test (f x) ≡ test x) → list_any test (map f xs) ≡ list_any test xs
+pub any-map : {X : Type 0} (test : X → Bool) (f : X → X) (xs : List X) → ((x : X) → test (f x) ≡ test x) → list_any test (map f xs) ≡ list_any test xs
 any-map test f [] same = refl
 any-map test f (x ∷ xs) same = rw (same x) (ap (λ b. test x || b) (any-map test f xs same))
 

@@ -40,7 +40,7 @@ use Rattle.mt_laws.proofs.WritableLemmas.{side_by-is_side}
 
 -- ---- each state that a run reaches, with the event that comes next
 
-run_push : (events : List Event) (answers : List Answer) (p : Plain) (event : Event) (answer : Answer) → Run p events answers → Answers (after p events answers) event answer
+pub run_push : (events : List Event) (answers : List Answer) (p : Plain) (event : Event) (answer : Answer) → Run p events answers → Answers (after p events answers) event answer
     → Run p (events ++ event ∷ []) (answers ++ answer ∷ []) × (after p (events ++ event ∷ []) (answers ++ answer ∷ []) ≡ next (after p events answers) event answer)
 run_push [] [] p event answer run given = ((given, tt), refl)
 run_push [] (a ∷ answers) p event answer run given = absurd run

@@ -221,7 +221,7 @@ module _ (p : Plain) (w : Live) (way : Way) (lane : Lane) where
       (copy-cond (λ l. l.fed) (closes way && changes_primary way) (lane_closed way lane) lane lane.fed (copy-cond (λ l. l.fed) way.back _ _ lane.fed refl refl) refl)
 
 -- nothing is left to copy behind the end
-none_kept : {A : Type 0} (test : A → Bool) (xs : List A) → ((x : A) → test x ≡ false) → filter test xs ≡ []
+pub none_kept : {A : Type 0} (test : A → Bool) (xs : List A) → ((x : A) → test x ≡ false) → filter test xs ≡ []
 none_kept test [] each = refl
 none_kept test (x ∷ xs) each = rw (each x) (none_kept test xs each)
 

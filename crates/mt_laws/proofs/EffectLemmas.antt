@@ -108,7 +108,7 @@ differ-false true false e = absurd (true≢false e)
 differ-false false true e = absurd (true≢false e)
 differ-false false false e = refl
 
-or-false : (a b : Bool) → (a || b) ≡ false → (a ≡ false) × (b ≡ false)
+pub or-false : (a b : Bool) → (a || b) ≡ false → (a ≡ false) × (b ≡ false)
 or-false true b e = absurd (true≢false e)
 or-false false b e = (refl, e)
 

@@ -126,7 +126,7 @@ AtMost n v = owed_by v ≤ n
 owed_begun : (n : ℕ) (v : Live) (way : Way) → v.way ≡ Some way → way.done ≡ 0 → 1 ≤ n → owed_by v ≤ n + 1
 owed_begun n v way opens none le = let e = owed_of_way v (Some way) opens in let m = at_most_one way none in omega (arith, e, m, le)
 
-at_least_one : (w : Live) → 1 ≤ owed_by w
+pub at_least_one : (w : Live) → 1 ≤ owed_by w
 at_least_one w = from (owed_way w.way)
   where
     from : (n : ℕ) → 1 ≤ 1 + n

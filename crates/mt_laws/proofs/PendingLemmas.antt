@@ -59,7 +59,7 @@ filter_drop {X} test (suc n) (x ∷ xs) =
         let f : count_by test (x ∷ take n xs) ≡ more = omega arith in
         sym (ap (λ k. drop k (cond (test x) (x ∷ filter test xs) (filter test xs))) f ∙ ap (λ c. drop more (cond c (x ∷ filter test xs) (filter test xs))) b)
 
-map_same : {X Y : Type 0} (f g : X → Y) (xs : List X) → AllByRecursion (λ x. f x ≡ g x) xs → map f xs ≡ map g xs
+pub map_same : {X Y : Type 0} (f g : X → Y) (xs : List X) → AllByRecursion (λ x. f x ≡ g x) xs → map f xs ≡ map g xs
 map_same f g [] all = refl
 map_same f g (x ∷ xs) all = ap (λ y. y ∷ map f xs) all.0 ∙ ap (λ ys. g x ∷ ys) (map_same f g xs all.1)
 

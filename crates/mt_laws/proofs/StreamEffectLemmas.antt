@@ -53,7 +53,7 @@ same-state : (slot : Option Slot) → option_map (λ (s : Slot). s) slot ≡ slo
 same-state None = refl
 same-state (Some s) = refl
 
-either-same : {A : Type 0} (t : Bool) (x : A) → cond t x x ≡ x
+pub either-same : {A : Type 0} (t : Bool) (x : A) → cond t x x ≡ x
 either-same true x = refl
 either-same false x = refl
 

@@ -1,5 +1,5 @@
 -- A step, and an undo, between the primaries of a workflow's sides.
-use Rattle.std.proofs.Common.{◌≡◌, ◌<◌, ℕ, true, false, List, Some, None, Result, length, unwrap_or, subst, refl, sym, ap, ◌∙◌}
+use Rattle.std.proofs.Common.{◌≡◌, true, false, List, Some, None, Result, unwrap_or, subst, refl, sym, ap, ◌∙◌}
 use Rattle.std.specs.Prelude.{⊤, ◌==◌}
 use Rattle.mt_names.specs.Types.{no_types}
 use Rattle.mt_model.specs.declared.entries.Scope.{Scope}
@@ -9,8 +9,7 @@ use Rattle.mt_plain.specs.Events.{Way}
 use Rattle.mt_plain.specs.Plain.{last_step, next_step}
 use Rattle.mt_primary.specs.Primary.{PrimaryState}
 use Rattle.mt_primary.proofs.PrimariesLemmas.{with_primary-same, with_shards-same}
-use Rattle.mt_primary.specs.Places.{with_each, with_one}
-use Rattle.mt_primary.specs.Primaries.{Primaries, ShardsState, primary_in, primary_of, shards_of, with_shards}
+use Rattle.mt_primary.specs.Primaries.{Primaries, primary_of, shards_of, with_shards}
 use Rattle.mt_steps.specs.declared.fault.StepFault.{StepFault}
 use Rattle.mt_steps.specs.declared.log.OpenWay.{OpenWay}
 use Rattle.mt_steps.specs.declared.step.Step.{Step}
@@ -20,7 +19,6 @@ use Rattle.mt_steps.specs.Undo.{UndoState}
 use Rattle.mt_watch.specs.Asking.{Answering}
 use Rattle.mt_workflow.specs.Workflows.{WorkflowState}
 use Rattle.mt_stands.specs.Switching.{Undoes, with_primaries}
-use Rattle.mt_moves.proofs.PrimaryLemmas.{lent-each, lent-one}
 use Rattle.mt_moves.specs.Ways.{StepsBetween, UndoesBetween, sides_between}
 
 -- the way that is open
@@ -45,40 +43,6 @@ closed t primaries w new_w way journal o none is =
       refl,
       refl,
     )
-
--- the source's first primary, and all of the target's, are lent of their shards
-module _ (source_shards target_shards : ShardsState) (source : PrimaryState) (targets : List PrimaryState) (is_source : source ≡ primary_in source_shards 0) (are_targets : targets ≡ target_shards.each)
-    (some : 0 < length source_shards.each) (t : TopologyState) (w : WorkflowState) (journal : List JournalEntry) (log : UndoState)
-    (new_t : TopologyState) (new_source : PrimaryState) (new_targets : List PrimaryState) (new_w : WorkflowState) (new_journal : List JournalEntry) (new_log : UndoState) (long : length new_targets ≡ length targets) where
-  before-is : ◌≡◌ {A = SidesState} (record { topology = t; source = source; targets = targets; workflow = w; journal = journal }) (record { topology = t; source = primary_in source_shards 0; targets = target_shards.each; workflow = w; journal = journal })
-  before-is =
-      ap (λ p. record { topology = t; source = p; targets = targets; workflow = w; journal = journal }) is_source
-      ∙ ap (λ each. record { topology = t; source = primary_in source_shards 0; targets = each; workflow = w; journal = journal }) are_targets
-
-  after-is : ◌≡◌ {A = SidesState} (record { topology = new_t; source = new_source; targets = new_targets; workflow = new_w; journal = new_journal })
-      (record { topology = new_t; source = primary_in (with_one source_shards 0 new_source) 0; targets = (with_each target_shards new_targets).each; workflow = new_w; journal = new_journal })
-  after-is =
-      ap (λ p. record { topology = new_t; source = p; targets = new_targets; workflow = new_w; journal = new_journal }) (sym (lent-one source_shards new_source some))
-      ∙ ap (λ each. record { topology = new_t; source = primary_in (with_one source_shards 0 new_source) 0; targets = each; workflow = new_w; journal = new_journal })
-      (sym (lent-each target_shards new_targets (long ∙ ap length are_targets)))
-
-  pub lent-steps : (scopes : List Scope) (may_answer : Answering) (id : ℕ) (way : Way) (step : Step) (result : Result ⊤ StepFault)
-      → Steps scopes may_answer id way step (record { topology = t; source = source; targets = targets; workflow = w; journal = journal }) log
-      result (record { topology = new_t; source = new_source; targets = new_targets; workflow = new_w; journal = new_journal }) new_log
-      → Steps scopes may_answer id way step (record { topology = t; source = primary_in source_shards 0; targets = target_shards.each; workflow = w; journal = journal }) log
-      result (record { topology = new_t; source = primary_in (with_one source_shards 0 new_source) 0; targets = (with_each target_shards new_targets).each; workflow = new_w; journal = new_journal }) new_log
-  lent-steps scopes may_answer id way step result did =
-      subst (λ from. Steps scopes may_answer id way step from log result (record { topology = new_t; source = primary_in (with_one source_shards 0 new_source) 0; targets = (with_each target_shards new_targets).each; workflow = new_w; journal = new_journal }) new_log) before-is
-      (subst (λ to. Steps scopes may_answer id way step (record { topology = t; source = source; targets = targets; workflow = w; journal = journal }) log result to new_log) after-is did)
-
-  pub lent-undone : (way : Way) (step : Step)
-      → IsUndone way step (record { topology = t; source = source; targets = targets; workflow = w; journal = journal }) log
-      (record { topology = new_t; source = new_source; targets = new_targets; workflow = new_w; journal = new_journal }) new_log
-      → IsUndone way step (record { topology = t; source = primary_in source_shards 0; targets = target_shards.each; workflow = w; journal = journal }) log
-      (record { topology = new_t; source = primary_in (with_one source_shards 0 new_source) 0; targets = (with_each target_shards new_targets).each; workflow = new_w; journal = new_journal }) new_log
-  lent-undone way step did =
-      subst (λ from. IsUndone way step from log (record { topology = new_t; source = primary_in (with_one source_shards 0 new_source) 0; targets = (with_each target_shards new_targets).each; workflow = new_w; journal = new_journal }) new_log) before-is
-      (subst (λ to. IsUndone way step (record { topology = t; source = source; targets = targets; workflow = w; journal = journal }) log to new_log) after-is did)
 
 -- the primaries of both sides are worked on
 module _ (t : TopologyState) (ps : Primaries) (w : WorkflowState) (journal : List JournalEntry) (source : PrimaryState) (targets : List PrimaryState)

@@ -1,9 +1,6 @@
 //! The next step of a way.
-ghost use Rattle.std.specs.Prelude.{◌≡◌, ◌<◌, ℕ, true, None, Some, is_some, length, option_map};
+ghost use Rattle.std.specs.Prelude.{◌≡◌, ℕ, true, None, Some, is_some, length, option_map};
 ghost use Rattle.mt_event.specs.Reasons.{done_by, reason_from};
-ghost use Rattle.mt_model.specs.Topology.{has_place};
-ghost use Rattle.mt_primary.specs.Places.{with_one};
-ghost use Rattle.mt_primary.specs.Primaries.{has_primaries, primary_in};
 ghost use Rattle.mt_stands.specs.Switching.{StepsWorkflow, answer_by_step, step_refusal};
 ghost use Rattle.mt_moves.specs.Ways.{CanStep, IsUnderWay, StepsBetween, left_open};
 ghost use Rattle.mt_journal.specs.Journal.{entry_of};
@@ -16,12 +13,11 @@ ghost use Rattle.mt_steps.specs.Streams.{KeepsToTest};
 ghost use Rattle.mt_steps.specs.Undo.{IsLogOf};
 ghost use Rattle.mt_workflow.specs.Workflows.{way_from};
 
-use crate::places::place_of;
 use crate::{OpenWays, Primaries, Workflows};
 use mt_event::Reason;
 use mt_journal::Journal;
 use mt_names::WorkflowName;
-use mt_primary::{Primary, Shards, two_of};
+use mt_primary::{Primary, sides_of};
 use mt_steps::{OpenWay, Sides, Step, StepFault, UndoLog, do_step, next_step};
 use mt_topology::Topology;
 use mt_watch::Asks;
@@ -114,42 +110,6 @@ fn step_on<W: Asks>(
     do_step(alloc, &mut sides, log, step)
 }
 
-/// Does so between the shards of both sides: the source has one.
-fn step_beside<W: Asks>(
-    alloc: Global,
-    topology: &mut Topology,
-    source: &mut Shards,
-    target: &mut Shards,
-    workflow: &mut Workflow,
-    journal: &mut Journal,
-    watchers: &W,
-    id: u64,
-    log: &mut UndoLog,
-    step: Step,
-) -> Result<(), StepFault>
-    requires open { is_some workflow.old.way ≡ true }
-    requires next { number step ≡ next_step (open_way workflow.old) }
-    requires places { HasPlaces topology.old workflow.old }
-    requires log { IsLogOf workflow.old log.old }
-    requires single { 0 < length source.old.each }
-    requires targets { length target.old.each ≡ length workflow.old.lanes }
-    requires shards { (open_way workflow.old).shards ≡ length workflow.old.lanes }
-    requires kept { KeepsToTest workflow.old (open_way workflow.old) (number step) (primary_in source.old 0) target.old.each }
-    requires fresh { number step ≡ write_journal → entry_of journal.old id ≡ None }
-    ensures source { source.new ≡ with_one source.old 0 (primary_in source.new 0) }
-    ensures cuts { target.new.cuts ≡ target.old.cuts }
-    ensures steps { Steps (W.scopes watchers.now) (W.may_answer watchers.now) id (open_way workflow.old) step
-        (record { topology = topology.old; source = primary_in source.old 0; targets = target.old.each; workflow = workflow.old; journal = journal.old }) log.old
-        result
-        (record { topology = topology.new; source = primary_in source.new 0; targets = target.new.each; workflow = workflow.new; journal = journal.new }) log.new }
-{
-    let one = source.shard_mut(0);
-    let all = target.all_mut();
-    step_on(
-        alloc, topology, one, all, workflow, journal, watchers, id, log, step,
-    )
-}
-
 /// Does the step that is next between the primaries of a workflow's sides, wherever they stand.
 #[inline(never)]
 fn step_between<W: Asks>(
@@ -167,15 +127,13 @@ fn step_between<W: Asks>(
     ensures { StepsBetween (W.scopes watchers.now) (W.may_answer watchers.now) topology.old primaries.old workflow.old (way_from way) journal.old kept.old result
         topology.new primaries.new workflow.new journal.new kept.new }
 {
-    let source = place_of(primaries, workflow.source());
-    let target = place_of(primaries, workflow.target());
-    let places = primaries.places_mut();
-    let (from, to) = two_of(places, source, target);
-    step_beside(
+    let (places, source, target) = primaries.sides_mut(workflow.source(), workflow.target());
+    let (one, all) = sides_of(places, source, target);
+    step_on(
         alloc,
         topology,
-        from,
-        to,
+        one,
+        all,
         workflow,
         journal,
         watchers,

@@ -2,8 +2,6 @@
 ghost use Rattle.std.specs.Prelude.{◌≡◌, ◌<◌, ◌==◌, ℕ, false, true, Some, is_some, length, option_map};
 ghost use Rattle.mt_event.specs.Reasons.{done_by, reason_from};
 ghost use Rattle.mt_plain.specs.Plain.{last_step, stands_done, write_journal};
-ghost use Rattle.mt_primary.specs.Places.{with_one};
-ghost use Rattle.mt_primary.specs.Primaries.{primary_in};
 ghost use Rattle.mt_steps.specs.Entries.{HasPlaces};
 ghost use Rattle.mt_steps.specs.Plans.{step_at};
 ghost use Rattle.mt_steps.specs.Steps.{IsUndone, open_way};
@@ -12,13 +10,12 @@ ghost use Rattle.mt_stands.specs.Switching.{UndoesWorkflow, undo_refusal};
 ghost use Rattle.mt_moves.specs.Ways.{CanStep, IsUnderWay, UndoesBetween};
 ghost use Rattle.mt_workflow.specs.Workflows.{way_from};
 
-use crate::places::place_of;
 use crate::stepping::close;
 use crate::{OpenWays, Primaries, Workflows};
 use mt_event::Reason;
 use mt_journal::Journal;
 use mt_names::WorkflowName;
-use mt_primary::{Primary, Shards, two_of};
+use mt_primary::{Primary, sides_of};
 use mt_steps::{OpenWay, Sides, UndoLog, undo_last};
 use mt_topology::Topology;
 use mt_watch::Asks;
@@ -71,36 +68,6 @@ fn undo_on<W: Asks>(
     undo_last(&mut sides, log)
 }
 
-/// Does so between the shards of both sides: the source has one.
-fn undo_beside<W: Asks>(
-    topology: &mut Topology,
-    source: &mut Shards,
-    target: &mut Shards,
-    workflow: &mut Workflow,
-    journal: &mut Journal,
-    watchers: &W,
-    id: u64,
-    log: &mut UndoLog,
-)
-    requires open { is_some workflow.old.way ≡ true }
-    requires some { 0 < (open_way workflow.old).done }
-    requires before { last_step (open_way workflow.old) < write_journal }
-    requires single { 0 < length source.old.each }
-    requires targets { length target.old.each ≡ length workflow.old.lanes }
-    requires shards { (open_way workflow.old).shards ≡ length workflow.old.lanes }
-    requires places { HasPlaces topology.old workflow.old }
-    requires log { IsLogOf workflow.old log.old }
-    ensures source { source.new ≡ with_one source.old 0 (primary_in source.new 0) }
-    ensures cuts { target.new.cuts ≡ target.old.cuts }
-    ensures undone { IsUndone (open_way workflow.old) (step_at (last_step (open_way workflow.old)))
-        (record { topology = topology.old; source = primary_in source.old 0; targets = target.old.each; workflow = workflow.old; journal = journal.old }) log.old
-        (record { topology = topology.new; source = primary_in source.new 0; targets = target.new.each; workflow = workflow.new; journal = journal.new }) log.new }
-{
-    let one = source.shard_mut(0);
-    let all = target.all_mut();
-    undo_on(topology, one, all, workflow, journal, watchers, id, log);
-}
-
 /// Undoes the step that was done last between the primaries of a workflow's sides, wherever they stand.
 #[inline(never)]
 fn undo_done<W: Asks>(
@@ -119,14 +86,12 @@ fn undo_done<W: Asks>(
     ensures { UndoesBetween topology.old primaries.old workflow.old (way_from way) journal.old kept.old
         topology.new primaries.new workflow.new journal.new kept.new }
 {
-    let source = place_of(primaries, workflow.source());
-    let target = place_of(primaries, workflow.target());
-    let places = primaries.places_mut();
-    let (from, to) = two_of(places, source, target);
-    undo_beside(
+    let (places, source, target) = primaries.sides_mut(workflow.source(), workflow.target());
+    let (one, all) = sides_of(places, source, target);
+    undo_on(
         topology,
-        from,
-        to,
+        one,
+        all,
         workflow,
         journal,
         watchers,

@@ -1,5 +1,6 @@
 pub mod ChangeLemmas
 pub mod DenialLemmas
+pub mod FollowLemmas
 pub mod LawLemmas
 pub mod LeadLemmas
 pub mod LogLemmas

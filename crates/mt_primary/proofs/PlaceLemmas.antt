@@ -14,11 +14,11 @@ use Rattle.mt_names.proofs.EntryLemmas.{IsDistinct-push, absent_from_lookup, non
 use Rattle.mt_names.proofs.SameLemmas.{same_text_decides}
 use Rattle.mt_names.specs.Names.{same_text}
 use Rattle.mt_primary.proofs.PlacedLemmas.{found-at, lookup-at, set_value-at}
+use Rattle.mt_primary.proofs.PrimariesLemmas.{cuts-with_shards}
 use Rattle.mt_primary.specs.Primary.{PrimaryState}
 use Rattle.mt_primary.specs.Kept.{AreKept}
-use Rattle.mt_primary.specs.Places.{IsAt, keyspace_at, with_each, with_one, with_places, with_state, with_two, written_over}
+use Rattle.mt_primary.specs.Places.{AreSides, IsAt, keyspace_at, shards_in, with_each, with_one, with_places, with_sides, with_state, with_two, written_over}
 use Rattle.mt_primary.specs.Primaries.{Primaries, ShardsState, has_primaries, no_shards, shards_at, shards_of, with_primary, with_shards}
-use Rattle.mt_primary.proofs.PrimariesLemmas.{cuts-with_shards}
 
 -- ---- what is written over others
 
@@ -188,16 +188,23 @@ module _ {A : Type 0} (all before rest : List A) (high low : ℕ) (cut : all ≡
       ∙ ap (λ l. Some (get_or l high x)) cut
       ∙ ap Some (get_or-append_right before rest high high x long (omega arith) ∙ ap (λ n. get_or rest n x) none ∙ sym is)
 
--- what two keyspaces have, written at their places, is written at them
+-- what two keyspaces have stands at their places, and is written there
 module _ (ps : Primaries) (distinct : IsDistinct same_text (keys_of ps)) (places : List ShardsState) (are : places ≡ values_of ps) where
-  -- what stands at a place is what the keyspace has
-  pub of_place : (k : List ℕ) (place : ℕ) (x : ShardsState) → IsAt ps k place → slice_get places place ≡ Some x → shards_of ps k ≡ x
-  of_place k place x at is =
-      ap (λ o. unwrap_or o no_shards) (lookup-at same_text same_text_decides ps place k x distinct at (ap (λ l. slice_get l place) (sym are) ∙ is))
+  side_within : (k : List ℕ) (place : ℕ) → IsAt ps k place → place < length places
+  side_within k place at =
+      let here = at_within ps k place at in
+      let long = ap length are ∙ length-values_of ps in
+      omega (arith, here, long)
+
+  side_there : (k : List ℕ) (place : ℕ) → IsAt ps k place → shards_in places place ≡ shards_of ps k
+  side_there k place at =
+      let here = slice_get-get_or places place no_shards (side_within k place at) in
+      let found = lookup-at same_text same_text_decides ps place k (shards_in places place) distinct at (ap (λ l. slice_get l place) (sym are) ∙ here) in
+      sym (ap (λ o. unwrap_or o no_shards) found)
 
   module _ (k j : List ℕ) (first second : ℕ) (at_k : IsAt ps k first) (at_j : IsAt ps j second) where
-    pub with_places-two : (x y : ShardsState) → with_places ps (with_two places first second x y) ≡ with_state (with_state ps k x) j y
-    with_places-two x y =
+    two_written : (x y : ShardsState) → with_places ps (with_two places first second x y) ≡ with_state (with_state ps k x) j y
+    two_written x y =
         let vs = values_of ps in
         let ks = keys_of ps in
         let long : length (with_two vs first second x y) ≡ length vs = length-set (set vs first x) second y ∙ length-set vs first x in
@@ -209,12 +216,20 @@ module _ (ps : Primaries) (distinct : IsDistinct same_text (keys_of ps)) (places
         (subst (IsDistinct same_text) (sym (keys-set_value (same_text k) ps x)) distinct)
         (ap (λ l. slice_get l second) (keys-set_value (same_text k) ps x) ∙ at_j)
 
-    -- where the bounds between the shards of both stay, only their primaries become others
-    pub with_places-sides : k ≢ j → (x y : ShardsState) → slice_get places first ≡ Some x → slice_get places second ≡ Some y
-        → (x' y' : ShardsState) → x'.cuts ≡ x.cuts → y'.cuts ≡ y.cuts → with_places ps (with_two places first second x' y') ≡ with_shards (with_shards ps k x'.each) j y'.each
-    with_places-sides apart x y is_x is_y x' y' cuts_x cuts_y =
-        let source : x'.cuts ≡ (shards_of ps k).cuts = cuts_x ∙ ap (λ (s : ShardsState). s.cuts) (sym (of_place k first x at_k is_x)) in
-        let target : y'.cuts ≡ (shards_of (with_shards ps k x'.each) j).cuts =
-        cuts_y ∙ ap (λ (s : ShardsState). s.cuts) (sym (of_place j second y at_j is_y)) ∙ sym (cuts-with_shards ps k x'.each j) in
-        with_places-two x' y'
-        ∙ ap₂ (λ cuts cuts'. with_state (with_state ps k (record { cuts = cuts; each = x'.each })) j (record { cuts = cuts'; each = y'.each })) source target
+    sides_written : (p : PrimaryState) (each : List PrimaryState) → length each ≡ length (shards_of ps j).each
+        → with_places ps (with_sides places first second p each) ≡ with_shards (with_primary ps k 0 p) j each
+    sides_written p each long =
+        two_written (with_one (shards_in places first) 0 p) (with_each (shards_in places second) each)
+        ∙ ap₂ (λ (x y : ShardsState). with_state (with_state ps k (with_one x 0 p)) j (with_each y each)) (side_there k first at_k) (side_there j second at_j)
+        ∙ ap (with_state (with_primary ps k 0 p) j) (with_each-same (shards_of ps j) each long)
+        ∙ ap (λ cuts. with_state (with_primary ps k 0 p) j (record { cuts = cuts; each = each })) (sym (cuts-with_shards ps k (set (shards_of ps k).each 0 p) j))
+
+    pub are_sides : k ≢ j → AreSides ps k j places first second
+    are_sides apart = record {
+      first_within = side_within k first at_k;
+      second_within = side_within j second at_j;
+      apart = λ same. apart (sym (keyspace_at-is ps k first at_k) ∙ ap (keyspace_at ps) same ∙ keyspace_at-is ps j second at_j);
+      source_there = side_there k first at_k;
+      target_there = side_there j second at_j;
+      written = sides_written;
+    }

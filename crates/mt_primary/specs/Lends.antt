@@ -5,7 +5,7 @@ use Rattle.mt_primary.specs.Primary.{PrimaryState}
 use Rattle.mt_primary.specs.contracts.primary.Primary as one
 use Rattle.mt_primary.specs.contracts.primaries.Primaries as all
 use Rattle.mt_primary.specs.contracts.shards.Shards as shards
-use Rattle.mt_primary.specs.Places.{keyspace_at, with_each, with_one, with_places, with_state, with_two}
+use Rattle.mt_primary.specs.Places.{keyspace_at, with_each, with_one, with_places, with_sides, with_state, with_two}
 use Rattle.mt_primary.specs.Primaries.{Primaries, ShardsState, shards_of, with_primary}
 
 -- ---- of a keyspace
@@ -37,3 +37,7 @@ LendsPlaces s r = Lends all.the_row (Array shards.the_row 0) s r (with_places s.
 -- two of them
 abbrev pub LendsTwo : MutBor (List ShardsState) → (first second : ℕ) → MutBor ShardsState × MutBor ShardsState → Fml
 LendsTwo s first second r = LendsBoth (Array shards.the_row 0) shards.the_row shards.the_row s r (with_two s.now first second)
+
+-- the first primary of one, and all of the other
+abbrev pub LendsSides : MutBor (List ShardsState) → (source target : ℕ) → MutBor PrimaryState × MutBor (List PrimaryState) → Fml
+LendsSides s source target r = LendsBoth (Array shards.the_row 0) one.the_row (Array one.the_row 0) s r (with_sides s.now source target)

@@ -1,9 +1,9 @@
 -- The primaries by the places of their keyspaces, and what is written over others.
-use Rattle.std.specs.Prelude.{◌≡◌, ℕ, List, [], ◌++◌, drop, length, take, slice_get, slice_index_or, slice_set, Some, zip}
+use Rattle.std.specs.Prelude.{◌≡◌, ◌≢◌, ◌<◌, ℕ, List, [], ◌++◌, drop, length, take, slice_get, slice_index_or, slice_set, Some, zip}
 use Rattle.std.specs.Map.{keys_of, set_value, values_of}
 use Rattle.mt_names.specs.Names.{same_text}
 use Rattle.mt_primary.specs.Primary.{PrimaryState}
-use Rattle.mt_primary.specs.Primaries.{Primaries, ShardsState}
+use Rattle.mt_primary.specs.Primaries.{Primaries, ShardsState, count_of, no_shards, shards_of, with_primary, with_shards}
 
 -- ---- where a keyspace stands
 
@@ -14,6 +14,10 @@ IsAt primaries keyspace place = slice_get (keys_of primaries) place ≡ Some key
 -- the one that does
 abbrev pub keyspace_at : Primaries → (place : ℕ) → List ℕ
 keyspace_at primaries place = slice_index_or (keys_of primaries) place []
+
+-- the shards at a place among those of all
+abbrev pub shards_in : List ShardsState → (place : ℕ) → ShardsState
+shards_in places place = slice_index_or places place no_shards
 
 -- ---- what is written over others
 
@@ -40,3 +44,20 @@ with_state primaries keyspace shards = set_value (same_text keyspace) primaries 
 -- others are written over what the keyspaces have, by their places
 abbrev pub with_places : Primaries → List ShardsState → Primaries
 with_places primaries places = zip (keys_of primaries) (written_over (values_of primaries) places)
+
+-- ---- two keyspaces at once
+
+-- of two places the first primary of the one, and all of the other, become others
+abbrev pub with_sides : List ShardsState → (source target : ℕ) → PrimaryState → List PrimaryState → List ShardsState
+with_sides places source target primary each =
+    with_two places source target (with_one (shards_in places source) 0 primary) (with_each (shards_in places target) each)
+
+-- what two keyspaces have stands at two places of a list of all, and what becomes of their primaries there becomes of the keyspaces'
+pub record AreSides (primaries : Primaries) (source target : List ℕ) (places : List ShardsState) (first second : ℕ) : Type 0 where
+  pub first_within : first < length places
+  pub second_within : second < length places
+  pub apart : first ≢ second
+  pub source_there : shards_in places first ≡ shards_of primaries source
+  pub target_there : shards_in places second ≡ shards_of primaries target
+  pub written : (primary : PrimaryState) (each : List PrimaryState) → length each ≡ count_of primaries target
+      → with_places primaries (with_sides places first second primary each) ≡ with_shards (with_primary primaries source 0 primary) target each

@@ -1,10 +1,9 @@
 -- What a change of one table is, and what becomes of the log with it.
-use Rattle.std.specs.Prelude.{◌≡◌, ◌≢◌, ℕ, true, List, [], ◌∷◌, ◌++◌, length, if◌then◌else◌, Result, Ok, Err}
+use Rattle.std.specs.Prelude.{◌≡◌, ◌≢◌, ℕ, List, Result, Ok, Err}
 use Rattle.mt_names.specs.Results.{◌>>=◌}
 use Rattle.mt_model.specs.declared.faults.PrimaryFault.{PrimaryFault}
 use Rattle.mt_model.specs.declared.faults.PrimaryFault.TheVariants.{Memory}
 use Rattle.mt_model.specs.declared.rows.Op.{Op}
-use Rattle.mt_model.specs.declared.rows.RowChange.{RowChange}
 use Rattle.mt_model.specs.Rows.{Row, op_key, op_row}
 use Rattle.mt_store.specs.Log.{LogState, log_end, with_entry}
 use Rattle.mt_primary.specs.Primary.{TableState, IsInKeyOrder, row_in}

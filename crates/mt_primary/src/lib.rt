@@ -25,4 +25,4 @@ pub use primaries::Primaries;
 pub use primary::Primary;
 pub use read_laws::{a_log_is_read_in_order, rows_are_read_in_order};
 pub use shards::Shards;
-pub use two::two_of;
+pub use two::sides_of;

@@ -1,12 +1,12 @@
 //! The primaries of all keyspaces, by their names and by their places.
-ghost use Rattle.std.specs.Prelude.{◌≡◌, ◌-◌, ◌<◌, ℕ, List, [], None, false, true, MatchOption, MatchResult, length, take};
+ghost use Rattle.std.specs.Prelude.{◌≡◌, ◌≢◌, ◌-◌, ◌<◌, ℕ, List, [], None, false, true, MatchOption, MatchResult, length, take};
 ghost use Rattle.std.specs.Borrow.{sem};
 ghost use Rattle.std.specs.List.{IsDistinct};
-ghost use Rattle.std.specs.Map.{keys_of, values_of};
+ghost use Rattle.std.specs.Map.{keys_of};
 ghost use Rattle.mt_names.specs.Names.{same_text};
 ghost use Rattle.mt_names.specs.Shards.{shard_count};
 ghost use Rattle.mt_primary.specs.Lends.{LendsAll, LendsPlaces, LendsPrimary};
-ghost use Rattle.mt_primary.specs.Places.{IsAt, keyspace_at};
+ghost use Rattle.mt_primary.specs.Places.{AreSides, IsAt, keyspace_at};
 ghost use Rattle.mt_primary.specs.Primaries.{count_of, has_primaries, place_of_key, primary_of, shards_at, shards_of, with_keyspace};
 
 use crate::{Primary, Shards};
@@ -198,11 +198,33 @@ impl Primaries {
         there.all_mut()
     }
 
-    /// The shards of all keyspaces, by their places, to write: `two_of` takes two of them.
-    pub fn places_mut(&mut self) -> &mut [Shards]
-        ensures* writes_back { sem 𝓛 (LendsPlaces self.entry result) }
-        ensures value { result.now ≡ values_of self.old }
+    /// The place of a keyspace that is there. It takes no memory.
+    fn place_of(&self, keyspace: &KeyspaceName) -> usize
+        requires { has_primaries self.now keyspace.now ≡ true }
+        ensures at { IsAt self.now keyspace.now result }
+        ensures distinct { IsDistinct same_text (keys_of self.now) }
     {
-        self.shards.as_mut_slice()
+        match self.place(keyspace) {
+            Some(place) => place,
+            None => unreachable!(),
+        }
+    }
+
+    /// The shards of all keyspaces, by their places, to write, and the places of two that are there, a workflow's source and its target:
+    /// `sides_of` takes these. It takes no memory, and looks each name up once.
+    pub fn sides_mut(
+        &mut self,
+        source: &KeyspaceName,
+        target: &KeyspaceName,
+    ) -> (&mut [Shards], usize, usize)
+        requires source { has_primaries self.old source.now ≡ true }
+        requires target { has_primaries self.old target.now ≡ true }
+        requires apart { source.now ≢ target.now }
+        ensures* writes_back { sem 𝓛 (LendsPlaces self.entry result.0) }
+        ensures sides { AreSides self.old source.now target.now result.0.now result.1 result.2 }
+    {
+        let first = self.place_of(source);
+        let second = self.place_of(target);
+        (self.shards.as_mut_slice(), first, second)
     }
 }

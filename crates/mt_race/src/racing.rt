@@ -185,15 +185,13 @@ fn passes_of<D: DeskName>(
     if let Some(fault) = controlled.fault {
         return Err(RaceFault::Desk(fault));
     }
-    match writers_of(alloc, wrote, writes) {
-        Ok(writers) => Ok(Passes {
-            writers,
-            stream,
-            controller: controlled.pass,
-            reader,
-        }),
-        Err(fault) => Err(fault),
-    }
+    let writers = writers_of(alloc, wrote, writes)?;
+    Ok(Passes {
+        writers,
+        stream,
+        controller: controlled.pass,
+        reader,
+    })
 }
 
 /// Whether there are so many clients that write, and the next three are the stream worker, the controller and the client that reads. A thread

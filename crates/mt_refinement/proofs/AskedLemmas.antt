@@ -17,7 +17,8 @@ use Rattle.mt_plain.specs.Plain.{Live, among, has_part, is_side, moves, twelve_k
 use Rattle.mt_plain.specs.Serve.{is_denied_at, serve}
 use Rattle.mt_stands.proofs.BeginLemmas.{serve_turned}
 use Rattle.mt_stands.proofs.PartLemmas.{serve_same}
-use Rattle.mt_refinement.proofs.ListLemmas.{each_named, each_side_key, flat_map_same, map_same}
+use Rattle.mt_refinement.proofs.ListLemmas.{each_named, each_side_key, flat_map_same}
+use Rattle.mt_laws.proofs.PendingLemmas.{map_same}
 
 itself : (name : List ℕ) → same_text name name ≡ true
 itself name = (same_text_decides name name).1 refl

@@ -36,7 +36,8 @@ use Rattle.mt_stands.specs.Base.{BaseState, Does, workflow_at}
 use Rattle.mt_stands.specs.Stands.{AreWorkflows, StandsFor, StandsForAny, StandsWith}
 use Rattle.mt_stands.specs.Workflows.{Cancels, CancelsAt, cancelled}
 use Rattle.mt_workflow.specs.Workflows.{WorkflowState, live_of}
-use Rattle.mt_refinement.proofs.MoveBaseLemmas.{live_found, no_live, same_or, stands-elsewhere}
+use Rattle.mt_refinement.proofs.MoveBaseLemmas.{live_found, no_live, stands-elsewhere}
+use Rattle.mt_stands.proofs.KnownLemmas.{same_or}
 use Rattle.mt_refinement.proofs.PrimaryLemmas.{all_changed, primaries_kept}
 use Rattle.mt_refinement.proofs.GoneLemmas.{allowed_before, allowed_gone, distinct_names, live_gone, names_gone, refused_stays, table_gone, table_stays}
 

@@ -35,7 +35,8 @@ use Rattle.mt_stands.specs.Base.{BaseState, Workflows, workflow_at}
 use Rattle.mt_stands.specs.Stands.{AreWorkflows, StandsFor, StandsForAny, StandsWith}
 use Rattle.mt_stands.specs.Switching.{completed}
 use Rattle.mt_stands.specs.Ways.{IsOpenOn, CoreStands, CoreState, WaysStand, WaysState, is_under_way, open_at}
-use Rattle.mt_refinement.proofs.MoveBaseLemmas.{live_found, same_or}
+use Rattle.mt_refinement.proofs.MoveBaseLemmas.{live_found}
+use Rattle.mt_stands.proofs.KnownLemmas.{same_or}
 use Rattle.mt_refinement.proofs.GoneLemmas.{distinct_names, live_gone, names_gone}
 use Rattle.mt_refinement.proofs.CompleteNextLemmas.{at_target}
 use Rattle.mt_refinement.proofs.WaysPrimaryLemmas.{others_stay, primaries_stand, tables_stay}

@@ -13,7 +13,7 @@ use Rattle.mt_plain.specs.Events.{Answer, create, done, row, advanced, shown, re
 use Rattle.mt_plain.specs.Next.{next}
 use Rattle.mt_plain.specs.Plain.{Plain, each_once, live_at}
 use Rattle.mt_plain.specs.Refuse.{refuse_if}
-use Rattle.mt_refinement.proofs.CreateRefusalLemmas.{or_else_none, refuse_if_none}
+use Rattle.mt_laws.proofs.RefusalLemmas.{or_else-none, refuse_if-none}
 use Rattle.mt_stands.specs.Base.{BaseState, Workflows, workflow_at}
 use Rattle.mt_stands.specs.Workflows.{CreatesSet, change_of, create_refusal, new_of, with_created}
 use Rattle.mt_refinement.proofs.WaysLemmas.{KeepsWay, Laws, is_under_way-found, is_under_way-none, none_keeps, same_keeps}
@@ -40,8 +40,8 @@ module _ (laws : Laws) (p : Plain) (scopes : List Scope) (may_answer : Answering
   -- what no test refuses has a new name
   free : create_refusal old scopes workflow source target (each_once tables) ≡ None → workflow_at old.workflows workflow ≡ None
   free none =
-      none_from (workflow_at old.workflows workflow) (refuse_if_none (is_some (workflow_at old.workflows workflow)) workflow_exists
-      (or_else_none (refuse_if (is_some (workflow_at old.workflows workflow)) workflow_exists) _ none).0)
+      none_from (workflow_at old.workflows workflow) (refuse_if-none (is_some (workflow_at old.workflows workflow)) workflow_exists
+      (or_else-none (refuse_if (is_some (workflow_at old.workflows workflow)) workflow_exists) _ none).0)
 
   pub create_keeps : (answer : Answer) → CreatesSet old scopes may_answer workflow source target (each_once tables) answer new → Kept answer
   create_keeps done creates = at creates.1

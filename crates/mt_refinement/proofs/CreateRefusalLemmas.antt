@@ -25,20 +25,13 @@ use Rattle.mt_stands.specs.Base.{BaseState, workflow_at}
 use Rattle.mt_stands.specs.Workflows.{create_refusal, is_moved, is_sharded, refusal_by_table, table_refusal, tables_refusal}
 use Rattle.mt_refinement.proofs.FreeLemmas.{free_rule, present_there}
 use Rattle.mt_refinement.proofs.ListLemmas.{each_key, find_same}
+use Rattle.mt_laws.proofs.RefusalLemmas.{or_else-none, refuse_if-none}
 
 -- ---- one test after the other
 
 pub or_else_same : (o m n : Option Refusal) → (o ≡ None → m ≡ n) → or_else o m ≡ or_else o n
 or_else_same None m n each = each refl
 or_else_same (Some refusal) m n each = refl
-
-pub or_else_none : (o next : Option Refusal) → or_else o next ≡ None → (o ≡ None) × (next ≡ None)
-or_else_none None next e = (refl, e)
-or_else_none (Some refusal) next e = absurd cc
-
-pub refuse_if_none : (test : Bool) (refusal : Refusal) → refuse_if test refusal ≡ None → test ≡ false
-refuse_if_none true refusal e = absurd cc
-refuse_if_none false refusal e = refl
 
 or_else_behind : (o : Option Refusal) → o ≡ or_else o None
 or_else_behind None = refl
@@ -56,7 +49,7 @@ first_refusal f (x ∷ xs) a =
 pub none_refuses : {X : Type 0} (f : X → Option Refusal) (xs : List X) → fold or_else None (map f xs) ≡ None → AllByRecursion (λ x. f x ≡ None) xs
 none_refuses f [] none = tt
 none_refuses f (x ∷ xs) none =
-    let (here, behind) = or_else_none (f x) (fold or_else None (map f xs)) (sym (first_refusal f xs (f x)) ∙ none) in
+    let (here, behind) = or_else-none (f x) (fold or_else None (map f xs)) (sym (first_refusal f xs (f x)) ∙ none) in
     (here, none_refuses f xs behind)
 
 -- ---- a table
@@ -151,7 +144,7 @@ behind_three None (Some r) c d none = absurd cc
 behind_three None None (Some r) d none = absurd cc
 
 behind_two : (a b c : Option Refusal) → or_else a (or_else b c) ≡ None → c ≡ None
-behind_two a b c none = (or_else_none b c (or_else_none a (or_else b c) none).1).1
+behind_two a b c none = (or_else-none b c (or_else-none a (or_else b c) none).1).1
 
 -- what no test refuses has room
 pub room_behind : (base : BaseState) (scopes : List Scope) (workflow source target : List ℕ) (tables : List (List ℕ)) → create_refusal base scopes workflow source target tables ≡ None
@@ -160,7 +153,7 @@ room_behind base scopes workflow source target tables none =
     let room = is_some (reserve_refusal base.topology source target tables) in
     no_fault (reserve_refusal base.topology source target tables)
     (or_none (nat_le most_workflows (length base.workflows)) room
-    (refuse_if_none (nat_le most_workflows (length base.workflows) || room) full
+    (refuse_if-none (nat_le most_workflows (length base.workflows) || room) full
     (behind_two (tables_refusal base source target tables) (refuse_if (not (has_scope scopes (scope.Primary target))) no_watcher) _
     (behind_three (refuse_if (not (has_primaries base.primaries source)) no_keyspace) (refuse_if (not (has_primaries base.primaries target)) no_keyspace)
     (refuse_if (is_sharded base source) sharded_source) _

@@ -18,7 +18,7 @@ use Rattle.mt_primary.specs.Primaries.{has_primaries}
 use Rattle.mt_stands.specs.Base.{BaseState, workflow_at}
 use Rattle.mt_stands.specs.Stands.{IsBase, StandsWith, Steps}
 use Rattle.mt_stands.specs.Workflows.{CreatesSet, change_of, create_refusal, is_full, is_sharded, new_of, tables_refusal, with_created}
-use Rattle.mt_refinement.proofs.CreateRefusalLemmas.{or_else_none, refuse_if_none}
+use Rattle.mt_laws.proofs.RefusalLemmas.{or_else-none, refuse_if-none}
 
 -- ---- more watchers
 
@@ -49,10 +49,10 @@ still_taken base more scopes workflow source target tables =
 
     watcher : watched scopes ≡ None → watched (more ++ scopes) ≡ None
     watcher none =
-        let (here, behind) = or_else_none (refuse_if (not (has scopes)) no_watcher) limits none in
+        let (here, behind) = or_else-none (refuse_if (not (has scopes)) no_watcher) limits none in
         ap (λ b. or_else (refuse_if (not b) no_watcher) limits)
         (list_any-append (λ other. same_scope other (scope.Primary target)) more scopes
-        ∙ or_right (has more) (has scopes) (not-false (has scopes) (refuse_if_none (not (has scopes)) no_watcher here)))
+        ∙ or_right (has more) (has scopes) (not-false (has scopes) (refuse_if-none (not (has scopes)) no_watcher here)))
         ∙ behind
 
 -- ---- the base that is left

@@ -14,7 +14,7 @@ use Rattle.mt_plain.specs.Plain.{Live, Plain, before_way, behind_last, changes_p
 use Rattle.mt_plain.specs.Serve.{serve, step_of_entry, types_by}
 use Rattle.mt_laws.proofs.ListLemmas.{cond-either}
 use Rattle.mt_stands.proofs.BeginLemmas.{serve_turned}
-use Rattle.mt_stands.proofs.FieldLemmas.{entries_same}
+use Rattle.mt_stands.proofs.FieldLemmas.{entries_same, filter_same}
 use Rattle.mt_workflow.proofs.MemberLemmas.{all_counted}
 use Rattle.mt_stands.proofs.PartLemmas.{part_entry, serve_same}
 use Rattle.mt_stands.proofs.StandLemmas.{same_part}
@@ -26,8 +26,10 @@ use Rattle.mt_steps.specs.Entries.{is_of_step, recorded, recorded_of, step_entri
 use Rattle.mt_steps.proofs.PlanLemmas.{number-step_at}
 use Rattle.mt_steps.specs.Plans.{number, step_at}
 use Rattle.mt_workflow.specs.Workflows.{WorkflowState, keys_of_part, live_of, rules_only, wanted}
-use Rattle.mt_refinement.proofs.KeepLemmas.{entry_step, eqb_turned, filter_same, filtered_same}
+use Rattle.mt_refinement.proofs.KeepLemmas.{entry_step, filtered_same}
+use Rattle.mt_stands.proofs.FeedLemmas.{same_key}
 use Rattle.mt_refinement.proofs.PlaceLemmas.{repeated_either}
+use Rattle.mt_laws.proofs.CopyLemmas.{none_kept}
 
 -- ---- numbers
 
@@ -53,13 +55,9 @@ none_last way none =
 -- ---- what is recorded
 
 -- the step that is repeated changes no entry
-filter-none : {A : Type 0} (test : A → Bool) (xs : List A) → ((x : A) → test x ≡ false) → filter test xs ≡ []
-filter-none test [] none = refl
-filter-none test (x ∷ xs) none = ap (λ b. cond b (x ∷ filter test xs) (filter test xs)) (none x) ∙ filter-none test xs none
-
 pub none_repeated : (w : WorkflowState) (types : TypeSet) (way : Way) (n : ℕ) → n ≡ repeated_step way → (es : List Entry) → recorded_of w n es ≡ step_entries w types n
 none_repeated w types way n is es =
-    filter-none (λ e. is_of_step w n (key_of e)) es (λ e. none (key_of e)) ∙ sym (ap (map (wanted w types)) (filter-none (is_of_step w n) (keys_of_part w) none))
+    none_kept (λ e. is_of_step w n (key_of e)) es (λ e. none (key_of e)) ∙ sym (ap (map (wanted w types)) (none_kept (is_of_step w n) (keys_of_part w) none))
   where
     none : (key : EntryKey) → is_of_step w n key ≡ false
     none key = ⊎_elim (by refresh_source (λ e. absurd cc) (λ e. absurd cc) (λ e. absurd cc) (λ e. absurd cc)) (by refresh_target (λ e. absurd cc) (λ e. absurd cc) (λ e. absurd cc) (λ e. absurd cc)) (repeated_either way)
@@ -122,7 +120,7 @@ module _ (p : Plain) (w : WorkflowState) (v : Live) (for : StandsFor p v w) wher
   -- what it writes is what that one serves
   pub entries_joined : (types : TypeSet) (n : ℕ) → step_entries w types n ≡ live.step_entries w.kept v types n
   entries_joined types n =
-      ap (map (wanted w types)) (filter_same (is_of_step w n) (λ key. eqb n (step_of_entry (live_of w) key)) (λ key. eqb_turned (step_of_entry (live_of w) key) n) (keys_of_part w))
+      ap (map (wanted w types)) (filter_same (is_of_step w n) (λ key. eqb n (step_of_entry (live_of w) key)) (λ key. same_key (step_of_entry (live_of w) key) n) (keys_of_part w))
       ∙ entries_same (live_of w) v (sym for.sides.source) (sym for.sides.target) (sym for.sides.tables) for.switched for.way w.kept types n
 
   module _ (t : TopologyState) (stands : TopologyStands p t) (owned : (key : EntryKey) → has_part v key ≡ true → part_owner p key ≡ Some v) (way : Way) (opens : w.way ≡ Some way)

@@ -20,6 +20,7 @@ use Rattle.mt_primary.specs.Primaries.{primary_of}
 use Rattle.mt_stands.specs.Base.{BaseState, empty_base, workflow_at}
 use Rattle.mt_stands.specs.Stands.{ArePrimaries, HasState, Stands, StandsForAny, StandsWith, Steps}
 use Rattle.mt_refinement.proofs.WiderLemmas.{IsWide, row_same, wider, widened}
+use Rattle.mt_laws.proofs.AllWritesLemmas.{run_push}
 
 module _ (more : List Scope) (p : Plain) where
   pending_wide : (w : Live) (lane : Lane) (log : List RowChange) → IsPending p w lane log → IsPending (wider more p) w lane log
@@ -86,20 +87,11 @@ pushed [] event all named = (named, tt)
 pushed (e ∷ events) event all named = (all.0, pushed events event all.1 named)
 
 -- a run goes on with one event more
-run_on : (events : List Event) (answers : List Answer) (p : Plain) (event : Event) (answer : Answer) → Run p events answers → Answers (after p events answers) event answer
-    → Run p (events ++ event ∷ []) (answers ++ answer ∷ []) × (after p (events ++ event ∷ []) (answers ++ answer ∷ []) ≡ next (after p events answers) event answer)
-run_on [] [] p event answer run given = ((given, tt), refl)
-run_on [] (a ∷ answers) p event answer run given = absurd run
-run_on (e ∷ events) [] p event answer run given = absurd run
-run_on (e ∷ events) (a ∷ answers) p event answer run given =
-    let (further, is) = run_on events answers (next p e a) event answer run.1 given in
-    ((run.0, further), is)
-
 -- a state that is reached by events that bring names alone, and one event more
 module _ (p : Plain) (reached : IsReached p) (event : Event) (answer : Answer) (given : Answers p event answer) where
   further : Run (opening reached.scopes) (reached.events ++ event ∷ []) (reached.answers ++ answer ∷ [])
       × (after (opening reached.scopes) (reached.events ++ event ∷ []) (reached.answers ++ answer ∷ []) ≡ next (after (opening reached.scopes) reached.events reached.answers) event answer)
-  further = run_on reached.events reached.answers (opening reached.scopes) event answer reached.run (subst (λ q. Answers q event answer) (sym reached.is) given)
+  further = run_push reached.events reached.answers (opening reached.scopes) event answer reached.run (subst (λ q. Answers q event answer) (sym reached.is) given)
 
   pub reached_next : IsReached (next p event answer)
   reached_next = record {

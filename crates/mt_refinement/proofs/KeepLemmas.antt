@@ -19,16 +19,10 @@ use Rattle.mt_steps.specs.Entries.{is_of_step, recorded_of, step_entries, step_k
 use Rattle.mt_steps.specs.Streams.{streams_undone, with_streams, workflow_stepped, workflow_undone}
 use Rattle.mt_stream.specs.Streams.{StreamValue}
 use Rattle.mt_workflow.specs.Workflows.{LaneState, WorkflowState, keys_of_part, live_of, rules_only, wanted}
+use Rattle.mt_stands.proofs.FieldLemmas.{filter_same, map_same}
+use Rattle.mt_stands.proofs.FeedLemmas.{same_key}
 
 -- ---- lists
-
-pub filter_same : {A : Type 0} (f g : A → Bool) → ((x : A) → f x ≡ g x) → (xs : List A) → filter f xs ≡ filter g xs
-filter_same f g same [] = refl
-filter_same f g same (x ∷ xs) = ap (λ b. cond b (x ∷ filter f xs) (filter f xs)) (same x) ∙ ap (λ l. cond (g x) (x ∷ l) l) (filter_same f g same xs)
-
-pub map_same : {A B : Type 0} (f g : A → B) → ((x : A) → f x ≡ g x) → (xs : List A) → map f xs ≡ map g xs
-map_same f g same [] = refl
-map_same f g same (x ∷ xs) = ap (λ y. y ∷ map f xs) (same x) ∙ ap (λ l. g x ∷ l) (map_same f g same xs)
 
 -- of those alone that pass a test
 pub filtered_same : {A B : Type 0} (f g : A → B) (test : A → Bool) (P : A → Type 0) → ((x : A) → P x → test x ≡ true → f x ≡ g x) → (xs : List A) → AllByRecursion P xs
@@ -44,9 +38,6 @@ filtered_same {A} {B} f g test P same (x ∷ xs) all = by (filtered_same f g tes
     by again false t =
         ap (λ b. map f (cond b (x ∷ filter test xs) (filter test xs))) t ∙ again
         ∙ sym (ap (λ b. map g (cond b (x ∷ filter test xs) (filter test xs))) t)
-
-pub eqb_turned : (a b : ℕ) → eqb a b ≡ eqb b a
-eqb_turned a b = both_ways (eqb a b) (eqb b a) (λ t. eq-eqb b a (sym (eqb-true a b t))) (λ t. eq-eqb a b (sym (eqb-true b a t)))
 
 -- ---- what stays of a workflow
 

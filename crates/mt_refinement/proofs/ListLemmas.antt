@@ -9,6 +9,7 @@ use Rattle.mt_names.specs.Names.{same_text}
 use Rattle.mt_names.proofs.SameLemmas.{same_text_decides}
 use Rattle.mt_model.specs.Part.{table_rule_keys}
 use Rattle.std.specs.Prelude.{Option}
+use Rattle.mt_laws.proofs.PendingLemmas.{map_same}
 
 -- ---- tests that agree on a list
 
@@ -47,10 +48,6 @@ each_named P (n ∷ ns) each = (
 )
 
 -- ---- lists that are made alike
-
-pub map_same : {X Y : Type 0} (f g : X → Y) (xs : List X) → AllByRecursion (λ x. f x ≡ g x) xs → map f xs ≡ map g xs
-map_same f g [] each = refl
-map_same f g (x ∷ xs) each = ap (λ y. y ∷ map f xs) each.0 ∙ ap (λ l. g x ∷ l) (map_same f g xs each.1)
 
 pub flat_map_same : {X Y : Type 0} (f g : X → List Y) (xs : List X) → AllByRecursion (λ x. f x ≡ g x) xs → flat_map f xs ≡ flat_map g xs
 flat_map_same f g [] each = refl

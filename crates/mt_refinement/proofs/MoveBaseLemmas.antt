@@ -10,9 +10,7 @@ use Rattle.mt_stands.specs.Keys.{IsKept}
 use Rattle.mt_stands.specs.Base.{Workflows, workflow_at}
 use Rattle.mt_stands.specs.Stands.{AreWorkflows, StandsFor, StandsForAny}
 use Rattle.mt_workflow.specs.Workflows.{WorkflowState}
-
-pub same_or : (j k : List ℕ) → (j ≡ k) ⊎ (j ≢ k)
-same_or j k = same_or_other same_text same_text_decides j k
+use Rattle.mt_stands.proofs.KnownLemmas.{same_or}
 
 -- what is there, set again, leaves all as it is
 pub set_value-same : {V : Type 0} (es : List (List ℕ × V)) (k : List ℕ) (v : V) → lookup (same_text k) es ≡ Some v → set_value (same_text k) es v ≡ es

@@ -15,29 +15,26 @@ use Rattle.mt_stands.proofs.StandLemmas.{same_part}
 use Rattle.mt_stands.specs.ByHand.{is_owned}
 use Rattle.mt_stands.specs.Base.{Workflows, workflow_at}
 use Rattle.mt_stands.specs.Stands.{AreWorkflows, StandsForAny}
+use Rattle.mt_stands.proofs.CountLemmas.{by_recursion}
 
 -- ---- names that stand once each
 
-abbrev NamesApart : List Live → Type 0
+abbrev pub NamesApart : List Live → Type 0
 NamesApart [] = ⊤
 NamesApart (v ∷ vs) = AllByRecursion (λ w. v.name ≢ w.name) vs × NamesApart vs
 
-by_recursion : {A : Type 0} (P : A → Type 0) (xs : List A) → All P xs → AllByRecursion P xs
-by_recursion P [] all = tt
-by_recursion P (x ∷ xs) all = (All-head P x xs all, by_recursion P xs (All-tail P x xs all))
-
-names_apart : (ws : List Live) → AllPairs (λ v w. v.name ≢ w.name) ws → NamesApart ws
+pub names_apart : (ws : List Live) → AllPairs (λ v w. v.name ≢ w.name) ws → NamesApart ws
 names_apart [] pairs = tt
 names_apart (w ∷ ws) pairs = (
   by_recursion (λ v. w.name ≢ v.name) ws (λ i d inside. pairs zero (suc i) d (omega arith) (omega arith)),
   names_apart ws (λ i j d below inside. pairs (suc i) (suc j) d (omega arith) (omega arith)),
 )
 
-none_of_name : (name : List ℕ) (vs : List Live) → AllByRecursion (λ w. name ≢ w.name) vs → find (λ w. same_text w.name name) vs ≡ None
+pub none_of_name : (name : List ℕ) (vs : List Live) → AllByRecursion (λ w. name ≢ w.name) vs → find (λ w. same_text w.name name) vs ≡ None
 none_of_name name [] all = refl
 none_of_name name (v ∷ vs) all = rw (apart same_text same_text_decides v.name name (λ e. all.0 (sym e))) (none_of_name name vs all.1)
 
-absent_name : (name : List ℕ) (vs : List Live) → AllByRecursion (λ w. name ≢ w.name) vs → AllByRecursion (λ k. same_text name k ≡ false) (map (λ w. w.name) vs)
+pub absent_name : (name : List ℕ) (vs : List Live) → AllByRecursion (λ w. name ≢ w.name) vs → AllByRecursion (λ k. same_text name k ≡ false) (map (λ w. w.name) vs)
 absent_name name [] all = tt
 absent_name name (v ∷ vs) all = (apart same_text same_text_decides name v.name all.0, absent_name name vs all.1)
 

@@ -22,7 +22,7 @@ use Rattle.mt_steps.specs.Refreshes.{RefreshesSide, Sites}
 use Rattle.mt_steps.specs.Shards.{last_shard, next_shard, target_at}
 use Rattle.mt_steps.specs.Steps.{Attempts, IsGivenBack, given_listed}
 use Rattle.mt_workflow.specs.Workflows.{WorkflowState}
-use Rattle.mt_stands.proofs.BeginLemmas.{or_else-none, refuse_if-none}
+use Rattle.mt_laws.proofs.RefusalLemmas.{or_else-none, refuse_if-none}
 use Rattle.mt_stands.proofs.KnownLemmas.{itself}
 use Rattle.mt_refinement.proofs.AttemptLemmas.{and_none}
 use Rattle.mt_refinement.proofs.ChangeLemmas.{IsAt, IsChanged, Listed, Stand, changed_at, changes, joined, of_source, of_target, sides_apart, source_first, source_tables, source_within, stays, target_tables, target_within}

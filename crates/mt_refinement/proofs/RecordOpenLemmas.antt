@@ -17,10 +17,7 @@ use Rattle.mt_stands.specs.Switching.{open_after}
 use Rattle.mt_stands.specs.Ways.{IsGiven, IsOpenOn, WaysState, WaysStand, is_under_way, open_at}
 use Rattle.mt_steps.specs.declared.log.OpenWay.{OpenWay}
 use Rattle.mt_workflow.specs.Workflows.{WorkflowState}
-use Rattle.mt_refinement.proofs.TopologyLemmas.{one_some}
-
-same_or : (j k : List ℕ) → (j ≡ k) ⊎ (j ≢ k)
-same_or j k = same_or_other same_text same_text_decides j k
+use Rattle.mt_stands.proofs.KnownLemmas.{same_or, some_is}
 
 -- ---- journals
 
@@ -103,7 +100,7 @@ module _ (p q : Plain) (old new : BaseState) (ways now : WaysState) (stands : Wa
     where
       same : (x : Option Way) → option_map (λ (y : Way). u) x ≡ Some a → a.number ≡ o.number
       same None e = absurd cc
-      same (Some x) e = ap (λ (y : OpenWay). y.number) (sym (one_some u a e)) ∙ number
+      same (Some x) e = ap (λ (y : OpenWay). y.number) (sym (some_is u a e)) ∙ number
 
       here : name ≡ n → (b : OpenWay) × (open_at ways.opened n ≡ Some b) × (a.number ≡ b.number)
       here e = (o, subst (λ m. open_at ways.opened m ≡ Some o) e is_open, same v.way (sym open_here ∙ ap (open_at now.opened) e ∙ is))
@@ -120,9 +117,9 @@ module _ (p q : Plain) (old new : BaseState) (ways now : WaysState) (stands : Wa
       where
         at_it : name ≡ n → IsOpenOn now.journal live x way a
         at_it e =
-            let same : v ≡ x = one_some v x (sym (workflow_here old.workflows new.workflows name w v found workflows) ∙ ap (workflow_at new.workflows) e ∙ is_x) in
+            let same : v ≡ x = some_is v x (sym (workflow_here old.workflows new.workflows name w v found workflows) ∙ ap (workflow_at new.workflows) e ∙ is_x) in
             let opens_v : v.way ≡ Some way = ap (λ (y : WorkflowState). y.way) same ∙ opens in
-            let same_u : u ≡ a = one_some u a (sym (open_here ∙ ap (option_map (λ (y : Way). u)) opens_v) ∙ ap (open_at now.opened) e ∙ is_a) in
+            let same_u : u ≡ a = some_is u a (sym (open_here ∙ ap (option_map (λ (y : Way). u)) opens_v) ∙ ap (open_at now.opened) e ∙ is_a) in
             subst (λ (y : WorkflowState). IsOpenOn now.journal live y way a) same
             (subst (λ (y : OpenWay). IsOpenOn now.journal live v way y) same_u (here live way (ap (live_at q) e ∙ is_live) opens_v))
 
@@ -183,7 +180,7 @@ module _ (p q : Plain) (old new : BaseState) (ways now : WaysState) (stands : Wa
   which n a is = ⊎_elim here elsewhere (same_or name n)
     where
       here : name ≡ n → ((name ≡ n) × (a.number ≡ suc ways.begun)) ⊎ (open_at ways.opened n ≡ Some a)
-      here e = inl (e, ap (λ (y : OpenWay). y.number) (sym (one_some u a (sym begun_here ∙ ap (open_at now.opened) e ∙ is))) ∙ number)
+      here e = inl (e, ap (λ (y : OpenWay). y.number) (sym (some_is u a (sym begun_here ∙ ap (open_at now.opened) e ∙ is))) ∙ number)
 
       elsewhere : name ≢ n → ((name ≡ n) × (a.number ≡ suc ways.begun)) ⊎ (open_at ways.opened n ≡ Some a)
       elsewhere other = inr (sym (begun_elsewhere n other) ∙ is)
@@ -210,9 +207,9 @@ module _ (p q : Plain) (old new : BaseState) (ways now : WaysState) (stands : Wa
       where
         at_it : name ≡ n → IsOpenOn now.journal live x way a
         at_it e =
-            let same : v ≡ x = one_some v x (sym (workflow_here old.workflows new.workflows name w v found workflows) ∙ ap (workflow_at new.workflows) e ∙ is_x) in
-            let same_way : fresh ≡ way = one_some fresh way (sym fresh_is ∙ ap (λ (y : WorkflowState). y.way) same ∙ opens) in
-            let same_u : u ≡ a = one_some u a (sym begun_here ∙ ap (open_at now.opened) e ∙ is_a) in
+            let same : v ≡ x = some_is v x (sym (workflow_here old.workflows new.workflows name w v found workflows) ∙ ap (workflow_at new.workflows) e ∙ is_x) in
+            let same_way : fresh ≡ way = some_is fresh way (sym fresh_is ∙ ap (λ (y : WorkflowState). y.way) same ∙ opens) in
+            let same_u : u ≡ a = some_is u a (sym begun_here ∙ ap (open_at now.opened) e ∙ is_a) in
             subst (λ (y : WorkflowState). IsOpenOn now.journal live y way a) same
             (subst (λ (y : Way). IsOpenOn now.journal live v y a) same_way (subst (λ (y : OpenWay). IsOpenOn now.journal live v fresh y) same_u (here live)))
 

@@ -44,7 +44,7 @@ use Rattle.mt_refinement.proofs.PlaceLemmas.{before_at}
 use Rattle.mt_refinement.proofs.PrimaryUndoLemmas.{list_empty, no_tables}
 use Rattle.mt_refinement.proofs.RecordOpenLemmas.{goes_on, none_pushed, written-push}
 use Rattle.mt_refinement.proofs.SlotLemmas.{map-in, map-map, slot-state}
-use Rattle.mt_refinement.proofs.TopologyLemmas.{one_some}
+use Rattle.mt_stands.proofs.KnownLemmas.{some_is}
 use Rattle.mt_refinement.proofs.WholeOpenLemmas.{saved}
 
 -- ---- the live workflow behind a step
@@ -209,7 +209,7 @@ module _ (p : Plain) (scopes asked : List Scope) (may_answer : Answering) (s : C
       by : (b : Bool) → closes way ≡ b → IsOpenOn sides.journal live now x u
       by true b = let none : None ≡ Some x = sym (way_now ∙ ap (λ c. cond c None (Some (more way))) b) ∙ now_opens in absurd cc
       by false b =
-          subst (λ y. IsOpenOn sides.journal live now y u) (one_some (more way) x (sym (still_open b) ∙ now_opens))
+          subst (λ y. IsOpenOn sides.journal live now y u) (some_is (more way) x (sym (still_open b) ∙ now_opens))
           (open_now b live (live_step p name at v live way is_live named v_opens is_now))
 
   -- ---- the journal

@@ -37,7 +37,7 @@ use Rattle.mt_refinement.proofs.KeepLemmas.{Keeps, entries_keep, recorded_keeps,
 use Rattle.mt_refinement.proofs.PlaceLemmas.{last_fewer, not_last}
 use Rattle.mt_refinement.proofs.RecordOpenLemmas.{goes_on}
 use Rattle.mt_refinement.proofs.SlotLemmas.{map-in}
-use Rattle.mt_refinement.proofs.TopologyLemmas.{one_some}
+use Rattle.mt_stands.proofs.KnownLemmas.{some_is}
 use Rattle.mt_refinement.proofs.WholeOpenLemmas.{saved}
 
 -- ---- the live workflow behind an undo
@@ -147,7 +147,7 @@ module _ (p : Plain) (scopes : List Scope) (s : CoreState) (stands : CoreStands 
         by : (b : Bool) → eqb (way.done - 1) 0 ≡ b → IsOpenOn sides.journal live now x u
         by true b = let none : None ≡ Some x = sym (way_now ∙ ap (λ c. cond c None (Some (fewer way))) b) ∙ now_opens in absurd cc
         by false b =
-            subst (λ y. IsOpenOn sides.journal live now y u) (one_some (fewer way) x (sym (still_open b) ∙ now_opens))
+            subst (λ y. IsOpenOn sides.journal live now y u) (some_is (fewer way) x (sym (still_open b) ∙ now_opens))
             (open_now b live (live_undo p name at v live way is_live named v_opens is_now))
 
     pub undo_stays : WaysStand (next p (undo name at) done) (with_sides s w sides u).base (with_sides s w sides u).ways

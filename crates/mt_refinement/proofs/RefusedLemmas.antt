@@ -24,19 +24,20 @@ use Rattle.mt_stands.specs.Workflows.{create_refusal, is_full, is_moved, tables_
 use Rattle.mt_stands.specs.Workflows.{is_sharded as has_shards}
 use Rattle.mt_refinement.proofs.ListLemmas.{all_more}
 use Rattle.mt_refinement.proofs.NamedLemmas.{same_count, same_names}
-use Rattle.mt_refinement.proofs.CreateRefusalLemmas.{none_refuses, or_else_none, or_else_same, refuse_if_none, same_tables, same_watchers}
+use Rattle.mt_refinement.proofs.CreateRefusalLemmas.{none_refuses, or_else_same, same_tables, same_watchers}
+use Rattle.mt_laws.proofs.RefusalLemmas.{or_else-none, refuse_if-none}
 use Rattle.mt_refinement.proofs.RoomLemmas.{CanMove, Knows, same_room}
 
 -- a table that no test refuses can move
 pub can_move : (p : Plain) (source target table : List ℕ) → moved_table_refusal p source target table ≡ None → CanMove p source target table
 can_move p source target table none =
-    let (here, a) = or_else_none (refuse_if (not (has_table p source table)) no_table) (or_else (refuse_if (is_some (mover p table)) table_in_workflow) (or_else (refuse_if (has_table p target table) (target_has_table table)) (conflict_refusal p source target table))) none in
-    let (free, b) = or_else_none (refuse_if (is_some (mover p table)) table_in_workflow) (or_else (refuse_if (has_table p target table) (target_has_table table)) (conflict_refusal p source target table)) a in
-    let (there, d) = or_else_none (refuse_if (has_table p target table) (target_has_table table)) (conflict_refusal p source target table) b in
+    let (here, a) = or_else-none (refuse_if (not (has_table p source table)) no_table) (or_else (refuse_if (is_some (mover p table)) table_in_workflow) (or_else (refuse_if (has_table p target table) (target_has_table table)) (conflict_refusal p source target table))) none in
+    let (free, b) = or_else-none (refuse_if (is_some (mover p table)) table_in_workflow) (or_else (refuse_if (has_table p target table) (target_has_table table)) (conflict_refusal p source target table)) a in
+    let (there, d) = or_else-none (refuse_if (has_table p target table) (target_has_table table)) (conflict_refusal p source target table) b in
     record {
-      free = none_from (mover p table) (refuse_if_none (is_some (mover p table)) table_in_workflow free);
-      here = not-false (has_table p source table) (refuse_if_none (not (has_table p source table)) no_table here);
-      there = refuse_if_none (has_table p target table) (target_has_table table) there;
+      free = none_from (mover p table) (refuse_if-none (is_some (mover p table)) table_in_workflow free);
+      here = not-false (has_table p source table) (refuse_if-none (not (has_table p source table)) no_table here);
+      there = refuse_if-none (has_table p target table) (target_has_table table) there;
     }
 
 pub can_moves : (p : Plain) (source target : List ℕ) (tables : List (List ℕ)) → moved_tables_refusal p source target tables ≡ None → AllByRecursion (CanMove p source target) tables
@@ -109,7 +110,7 @@ module _ (p : Plain) (scopes : List Scope) (base : BaseState) (stands : StandsWi
   plain_target = or_else (refuse_if (not (has_keyspace p target)) no_keyspace) plain_sharded
 
   there : (keyspace : List ℕ) → refuse_if (not (has_keyspace p keyspace)) no_keyspace ≡ None → has_keyspace p keyspace ≡ true
-  there keyspace e = not-false (has_keyspace p keyspace) (refuse_if_none (not (has_keyspace p keyspace)) no_keyspace e)
+  there keyspace e = not-false (has_keyspace p keyspace) (refuse_if-none (not (has_keyspace p keyspace)) no_keyspace e)
 
   from_target : has_keyspace p source ≡ true → core_target ≡ plain_target
   from_target there_s =
@@ -166,15 +167,15 @@ module _ (p : Plain) (workflow source target : List ℕ) (tables : List (List �
 
   pub passes : plain.create_refusal p workflow source target tables ≡ None → Passes p workflow source target tables
   passes none =
-      let (name, a) = or_else_none (refuse_if (is_some (live_at p workflow)) workflow_exists) behind_name none in
-      let (number, b) = or_else_none (refuse_if (length tables == 0) no_tables) behind_number a in
-      let (sides, d) = or_else_none (refuse_if (same_text source target) same_keyspace) behind_sides b in
-      let (at_source, e) = or_else_none (refuse_if (not (has_keyspace p source)) no_keyspace) behind_source d in
-      let (at_target, f) = or_else_none (refuse_if (not (has_keyspace p target)) no_keyspace) behind_target e in
-      let (one, g) = or_else_none (refuse_if (is_sharded p source) sharded_source) behind_sharded f in
-      let (each, h) = or_else_none (moved_tables_refusal p source target tables) behind_tables g in
+      let (name, a) = or_else-none (refuse_if (is_some (live_at p workflow)) workflow_exists) behind_name none in
+      let (number, b) = or_else-none (refuse_if (length tables == 0) no_tables) behind_number a in
+      let (sides, d) = or_else-none (refuse_if (same_text source target) same_keyspace) behind_sides b in
+      let (at_source, e) = or_else-none (refuse_if (not (has_keyspace p source)) no_keyspace) behind_source d in
+      let (at_target, f) = or_else-none (refuse_if (not (has_keyspace p target)) no_keyspace) behind_target e in
+      let (one, g) = or_else-none (refuse_if (is_sharded p source) sharded_source) behind_sharded f in
+      let (each, h) = or_else-none (moved_tables_refusal p source target tables) behind_tables g in
       record {
-        free = none_from (live_at p workflow) (refuse_if_none (is_some (live_at p workflow)) workflow_exists name);
-        there = not-false (has_keyspace p target) (refuse_if_none (not (has_keyspace p target)) no_keyspace at_target);
+        free = none_from (live_at p workflow) (refuse_if-none (is_some (live_at p workflow)) workflow_exists name);
+        there = not-false (has_keyspace p target) (refuse_if-none (not (has_keyspace p target)) no_keyspace at_target);
         can = can_moves p source target tables each;
       }

@@ -23,6 +23,8 @@ use Rattle.mt_steps.specs.declared.step.Step.TheVariants.{SwitchReads, DenySourc
 use Rattle.mt_steps.specs.Plans.{step_at}
 use Rattle.mt_steps.specs.Shards.{with_each}
 use Rattle.mt_steps.specs.Streams.{feeding_name, lane_made, other_name, stopped_stream, streams_undone, with_streams}
+use Rattle.mt_laws.proofs.StreamEffectLemmas.{either-same}
+use Rattle.mt_workflow.proofs.LaneLemmas.{range-kept}
 
 -- ---- lists of lanes
 
@@ -107,31 +109,27 @@ pub lane-same : (a b : LaneState) → a.range ≡ b.range → ((name : StreamNam
 lane-same a b range slots = λ i. record { range = range i; forward = slots forward i; back = slots back i }
 
 -- a lane keeps its range
-range-with : (name : StreamName) (stream : Option StreamValue) (lane : LaneState) → (with_lane_slot name stream lane).range ≡ lane.range
-range-with forward stream lane = refl
-range-with back stream lane = refl
-
 pub range-stepped : (tables : List (List ℕ)) (way : Way) (step : Step) (position : ℕ) (lane : LaneState) → (lane_with_streams tables way step position lane).range ≡ lane.range
 range-stepped tables way SwitchReads position lane = refl
 range-stepped tables way DenySource position lane = refl
 range-stepped tables way RefreshSource position lane = refl
 range-stepped tables way CatchUp position lane = refl
-range-stepped tables way StopFeeding position lane = range-with (feeding_name way) _ lane
-range-stepped tables way CreateBack position lane = range-with (other_name way) _ lane
+range-stepped tables way StopFeeding position lane = range-kept (feeding_name way) _ lane
+range-stepped tables way CreateBack position lane = range-kept (other_name way) _ lane
 range-stepped tables way Journal position lane = refl
 range-stepped tables way AllowTarget position lane = refl
 range-stepped tables way RefreshTarget position lane = refl
 range-stepped tables way SwitchWriteRules position lane = refl
-range-stepped tables way StartBack position lane = range-with (other_name way) _ lane
-range-stepped tables way FreezeOld position lane = range-with (feeding_name way) _ lane
+range-stepped tables way StartBack position lane = range-kept (other_name way) _ lane
+range-stepped tables way FreezeOld position lane = range-kept (feeding_name way) _ lane
 
 pub range-undone : (way : Way) (step : Step) (kept : Option StreamValue) (lane : LaneState) → (lane_undone way step kept lane).range ≡ lane.range
 range-undone way SwitchReads kept lane = refl
 range-undone way DenySource kept lane = refl
 range-undone way RefreshSource kept lane = refl
 range-undone way CatchUp kept lane = refl
-range-undone way StopFeeding kept lane = range-with (feeding_name way) _ lane
-range-undone way CreateBack kept lane = range-with (other_name way) kept lane
+range-undone way StopFeeding kept lane = range-kept (feeding_name way) _ lane
+range-undone way CreateBack kept lane = range-kept (other_name way) kept lane
 range-undone way Journal kept lane = refl
 range-undone way AllowTarget kept lane = refl
 range-undone way RefreshTarget kept lane = refl
@@ -148,10 +146,6 @@ feeds b back = b
 in_state-of : (live : Live) (lane : Lane) (state : StreamState) (o : Option Slot) → option_map (workflow.in_state state) (option_map (stream_of live lane) o) ≡ option_map (stream_of live lane) (effects.in_state state o)
 in_state-of live lane state None = refl
 in_state-of live lane state (Some s) = refl
-
-pub either-same : {A : Type 0} (t : Bool) (x : A) → cond t x x ≡ x
-either-same true x = refl
-either-same false x = refl
 
 none-either : (live : Live) (lane : Lane) (t : Bool) (v : Option StreamValue) (s : Option Slot) → v ≡ option_map (stream_of live lane) s → cond t None v ≡ option_map (stream_of live lane) (cond t None s)
 none-either live lane true v s is = refl

@@ -22,6 +22,7 @@ use Rattle.mt_steps.specs.Undo.{UndoState}
 use Rattle.mt_workflow.specs.Workflows.{WorkflowState}
 use Rattle.mt_refinement.proofs.EntryLemmas.{entries_joined, last_numbered, next_numbered, none_repeated}
 use Rattle.mt_refinement.proofs.PlaceLemmas.{last_stands}
+use Rattle.mt_stands.proofs.KnownLemmas.{some_is}
 
 -- ---- the live workflow for which one stands
 
@@ -35,13 +36,10 @@ pub live_for : (p : Plain) (workflows : Workflows) (name : List ℕ) (w : Workfl
     → (live : Live) × (live_at p name ≡ Some live) × StandsFor p live w
 live_for p workflows name w are found = live_found p (live_at p name) (workflow_at workflows name) w found (are.each name)
 
-pub one_some : {A : Type 0} (a b : A) → Some a ≡ Some b → a ≡ b
-one_some a b e = let same : a ≡ b = cc in same
-
 pub stands_for : (p : Plain) (workflows : Workflows) (name : List ℕ) (w : WorkflowState) (v : Live) → AreWorkflows p workflows → workflow_at workflows name ≡ Some w → live_at p name ≡ Some v → StandsFor p v w
 stands_for p workflows name w v are found is_live =
     let r = live_for p workflows name w are found in
-    subst (λ (x : Live). StandsFor p x w) (one_some r.0 v (sym r.1 ∙ is_live)) r.2
+    subst (λ (x : Live). StandsFor p x w) (some_is r.0 v (sym r.1 ∙ is_live)) r.2
 
 -- ---- what is written
 

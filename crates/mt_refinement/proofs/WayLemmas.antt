@@ -37,7 +37,8 @@ use Rattle.mt_steps.specs.Plans.{number, step_at}
 use Rattle.mt_steps.specs.Streams.{other_name, types_after, way_after, workflow_stepped, workflow_undone}
 use Rattle.mt_refinement.proofs.ChangedLemmas.{changed-workflows, stands_for, with_traffic}
 use Rattle.mt_refinement.proofs.PlaceLemmas.{last_on, repeated_either}
-use Rattle.mt_refinement.proofs.SlotLemmas.{begun-slot, either-same, lane-same, lane_undone, lane_with_streams, lanes-stepped, lanes-undone, map-in, map-map, range-stepped, range-undone, stepped-slots, undone-slots}
+use Rattle.mt_refinement.proofs.SlotLemmas.{begun-slot, lane-same, lane_undone, lane_with_streams, lanes-stepped, lanes-undone, map-in, map-map, range-stepped, range-undone, stepped-slots, undone-slots}
+use Rattle.mt_laws.proofs.StreamEffectLemmas.{either-same}
 
 -- ---- the events
 

@@ -10,7 +10,7 @@ use Rattle.mt_plain.specs.Next.{next, without_live}
 use Rattle.mt_plain.specs.Plain.{Live, Plain, live_at}
 use Rattle.mt_plain.specs.Refuse.{cancel_refusal, refuse_if}
 use Rattle.mt_laws.proofs.LiveLemmas.{find-filter_gone}
-use Rattle.mt_refinement.proofs.CreateRefusalLemmas.{or_else_none, refuse_if_none}
+use Rattle.mt_laws.proofs.RefusalLemmas.{or_else-none, refuse_if-none}
 use Rattle.mt_refinement.proofs.FoundLemmas.{live_of_state}
 use Rattle.mt_stands.specs.Base.{BaseState, Does, workflow_at}
 use Rattle.mt_stands.specs.Stands.{StandsFor, StandsForAny, StandsWith}
@@ -41,8 +41,8 @@ module _ (laws : Laws) (p : Plain) (scopes : List Scope) (old new : BaseState) (
   module _ (w : WorkflowState) (found : workflow_at old.workflows workflow ≡ Some w) (live : Live) (is_live : live_at p workflow ≡ Some live) (for : StandsFor p live w) where
     at_rest : cancel_refusal (live_of w) ≡ None → w.way ≡ None
     at_rest none =
-        none_from w.way (refuse_if_none (is_some w.way) under_way
-        (or_else_none (refuse_if (is_some w.way) under_way) (refuse_if (w.switched.primary || w.switched.replica || w.switched.rdonly) traffic_switched) none).0)
+        none_from w.way (refuse_if-none (is_some w.way) under_way
+        (or_else-none (refuse_if (is_some w.way) under_way) (refuse_if (w.switched.primary || w.switched.replica || w.switched.rdonly) traffic_switched) none).0)
 
     done_keeps : cancel_refusal (live_of w) ≡ None → new ≡ cancelled old w → Kept done
     done_keeps none same behind n =

@@ -21,17 +21,11 @@ use Rattle.mt_laws.specs.Reached.{IsInPlace}
 use Rattle.mt_laws.proofs.LiveLemmas.{Apart, IsIn}
 use Rattle.mt_stands.specs.Rows.{OtherKeyspacesStay, OtherTablesStay}
 use Rattle.mt_stands.specs.Stands.{ArePrimaries}
-use Rattle.mt_refinement.proofs.MoveBaseLemmas.{same_or}
+use Rattle.mt_stands.proofs.KnownLemmas.{same_or}
 use Rattle.mt_refinement.proofs.CompleteNextLemmas.{allowed_before, none_refuses, same_cuts, same_refuses, table_away, table_left, table_unmoved}
+use Rattle.mt_laws.proofs.CountLemmas.{length-changed}
 
 -- a keyspace that changes leaves as many as there were
-length_changed : (change : KeyspaceState → KeyspaceState) (keyspaces : Keyspaces) (name : List ℕ) → length (with_keyspace_state change keyspaces name) ≡ length keyspaces
-length_changed change keyspaces name = by (keyspace_at keyspaces name)
-  where
-    by : (o : Option KeyspaceState) → length (option_map_or (λ state. set_value (same_text name) keyspaces (change state)) o keyspaces) ≡ length keyspaces
-    by None = refl
-    by (Some state) = length-set_value (same_text name) keyspaces (change state)
-
 module _ (p : Plain) (old : Primaries) (stands : ArePrimaries p old) (are : (keyspace : List ℕ) (n : ℕ) → IsPrimary (primary_of old keyspace n))
     (apart : Apart p.lives) (w : Live) (is_in : IsIn w p.lives) (none : complete_refusal w ≡ None) (placed : IsInPlace p.topology w) (distinct : HasDistinctPlaces p.topology)
     (mover_is : (table : List ℕ) → moves w table ≡ true → mover p table ≡ Some w)
@@ -115,8 +109,8 @@ module _ (p : Plain) (old : Primaries) (stands : ArePrimaries p old) (are : (key
 
   as_many : length q.topology.keyspaces ≡ length p.topology.keyspaces
   as_many =
-      length_changed (with_tables w.tables) (with_keyspace_state (without_tables w.tables) p.topology.keyspaces w.source) w.target
-      ∙ length_changed (without_tables w.tables) p.topology.keyspaces w.source
+      length-changed (with_tables w.tables) (with_keyspace_state (without_tables w.tables) p.topology.keyspaces w.source) w.target
+      ∙ length-changed (without_tables w.tables) p.topology.keyspaces w.source
 
   pub primaries_stand : ArePrimaries q made
   primaries_stand = record {

@@ -15,12 +15,9 @@ use Rattle.mt_plain.specs.Refuse.{advance_at, advance_refusal, create_is_full, c
 use Rattle.mt_plain.specs.Slots.{applies, copied_after, is_for, is_fresh, lane_advanced, live_advanced, log_advanced, logged, may_be_cut, most_events, most_rows, past, room_in_log, running_at, slot_of, to_copy, with_position, writes_any, written_shard, written_side}
 use Rattle.mt_plain.specs.Writes.{row_by_mover, row_of}
 use Rattle.mt_laws.specs.Texts.{BringsNames}
+use Rattle.mt_laws.proofs.RefusalLemmas.{refuse_if-none}
 
 -- ---- refusals
-
-none_of : (test : Bool) (refusal : Refusal) → refuse_if test refusal ≡ None → test ≡ false
-none_of true refusal e = absurd cc
-none_of false refusal e = refl
 
 else_kept : (o a b : Option Refusal) → (a ≡ None → b ≡ None) → or_else o a ≡ None → or_else o b ≡ None
 else_kept None a b kept e = kept e
@@ -53,7 +50,7 @@ module _ (more : List Scope) where
 
   watched : (p : Plain) (keyspace : List ℕ) → watcher_refusal p keyspace ≡ None → watcher_refusal (wider p) keyspace ≡ None
   watched p keyspace e =
-      let is = not-false (list_any (is_of_primary keyspace) p.scopes) (none_of (not (list_any (is_of_primary keyspace) p.scopes)) no_watcher e) in
+      let is = not-false (list_any (is_of_primary keyspace) p.scopes) (refuse_if-none (not (list_any (is_of_primary keyspace) p.scopes)) no_watcher e) in
       ap (λ b. refuse_if (not b) no_watcher) (any_more (is_of_primary keyspace) p.scopes more is)
 
   created_still : (p : Plain) (workflow source target : List ℕ) (tables : List (List ℕ)) → create_refusal p workflow source target tables ≡ None → create_refusal (wider p) workflow source target tables ≡ None

@@ -138,13 +138,9 @@ impl<W: Asks> CachedSite<W> {
         ensures watchers { self.new.site.watchers ≡ self.old.site.watchers }
         ensures told { WrittenThrough self.old.site.core name.now op result self.new.site.core }
     {
-        match self.site.resolve(name, TabletType::Primary) {
-            Ok(target) => {
-                let place = self.site.core().place_of(target);
-                Ok(self.site.write_row(&place, op))
-            }
-            Err(fault) => Err(fault),
-        }
+        let target = self.site.resolve(name, TabletType::Primary)?;
+        let place = self.site.core().place_of(target);
+        Ok(self.site.write_row(&place, op))
     }
 
     /// Reads a row, or none, of the table that a name leads to for a type: a look-up, as `Site::resolve` answers it, and then
@@ -157,14 +153,10 @@ impl<W: Asks> CachedSite<W> {
     ) -> Result<Result<Option<Value>, Reason>, TopologyFault>
         ensures { ReadThrough self.now.site.core name.now key tablet_type result }
     {
-        match self.site.resolve(name, tablet_type) {
-            Ok(target) => {
-                let core = self.site.core();
-                let place = core.place_of(target);
-                Ok(core.read_row(&place, key, tablet_type))
-            }
-            Err(fault) => Err(fault),
-        }
+        let target = self.site.resolve(name, tablet_type)?;
+        let core = self.site.core();
+        let place = core.place_of(target);
+        Ok(core.read_row(&place, key, tablet_type))
     }
 }
 

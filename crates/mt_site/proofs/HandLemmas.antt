@@ -15,13 +15,12 @@ use Rattle.mt_model.specs.Limits.{most_keyspaces}
 use Rattle.mt_model.specs.Topology.{KeyspaceState, Keyspaces, Marks, TopologyState, has_place, is_marked, is_present, keyspace_at, with_keyspace_state, with_mark_place, with_new_table, with_table, with_table_mark, without_mark_place, without_table_place}
 use Rattle.mt_model.proofs.TopologyLemmas.{keyspace_at-changed_here, with_keyspace_state-found, with_mark_place-there}
 use Rattle.mt_topology.specs.Edits.{add_keyspace_refusal, add_table_refusal}
-use Rattle.mt_event.specs.Reasons.{reason_from}
+use Rattle.mt_event.specs.Reasons.{reason_by_topology, reason_from}
 use Rattle.mt_keyspace.specs.Edits.{Edits}
 use Rattle.mt_plain.specs.Events.{exists, full, refused}
 use Rattle.mt_stands.specs.ByHand.{refusal_by_topology}
 use Rattle.mt_primary.specs.Primaries.{Primaries, has_primaries}
 use Rattle.mt_stands.specs.Base.{BaseState, Does}
-use Rattle.mt_site.specs.ByHand as code
 use Rattle.mt_site.specs.ByHand.{AreTables, without_table}
 
 -- ---- keyspaces
@@ -41,7 +40,7 @@ keyspace-free keyspaces name is few = rw is (by (length keyspaces == most_keyspa
 
 -- a topology that is refused a keyspace is as it was, and the core tells the refusal
 pub keyspace-refused : (old new : TopologyState) (refusal : Option TopologyFault) (made : TopologyState) (fault : TopologyFault) → Edits old refusal true made (Err fault) new
-    → (core later goal : BaseState) → later ≡ core → Does core (option_map refusal_by_topology refusal) true goal (refused (reason_from (code.refusal_by_topology fault))) later
+    → (core later goal : BaseState) → later ≡ core → Does core (option_map refusal_by_topology refusal) true goal (refused (reason_from (reason_by_topology fault))) later
 keyspace-refused old new refusal made topology.Memory edits core later goal same = (ap (option_map refusal_by_topology) edits.0, refl, same)
 keyspace-refused old new refusal made topology.NoKeyspace edits core later goal same = (ap (option_map refusal_by_topology) edits.0, same)
 keyspace-refused old new refusal made topology.NoTable edits core later goal same = (ap (option_map refusal_by_topology) edits.0, same)

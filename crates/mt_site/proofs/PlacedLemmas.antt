@@ -1,6 +1,6 @@
 -- What is written at the primary of a key's shard, of the keyspace at a place, is written at that of the keyspace.
 use Rattle.std.proofs.Common.{◌≡◌, ◌<◌, ℕ, List, Option, None, Some, Result, cond, Bool, true, false, refl, sym, ap, subst, ◌∙◌}
-use Rattle.mt_event.specs.Reasons.{reason_from}
+use Rattle.mt_event.specs.Reasons.{reason_by_primary, reason_from}
 use Rattle.mt_model.specs.declared.faults.PrimaryFault.{PrimaryFault}
 use Rattle.mt_model.specs.declared.faults.PrimaryFault.TheVariants as fault
 use Rattle.mt_model.specs.declared.rows.Op.{Op}
@@ -20,10 +20,9 @@ use Rattle.mt_stands.specs.ByHand.{WritesAt, WritesRow, answer_by_read, read_at}
 use Rattle.mt_stands.specs.Base.{BaseState, Workflows}
 use Rattle.mt_stands.specs.Purges.{PurgesOne, has_whole_segments, with_purge_of, without_unneeded}
 use Rattle.mt_moves.proofs.PrimaryLemmas.{there-or-not}
-use Rattle.mt_site.specs.ByHand.{refusal_by_primary}
 
 -- a refusal of a primary, as the core tells it
-pub refused_there : (f : PrimaryFault) → refused (reason_from (refusal_by_primary f)) ≡ refused (refusal_by f)
+pub refused_there : (f : PrimaryFault) → refused (reason_from (reason_by_primary f)) ≡ refused (refusal_by f)
 refused_there fault.Memory = refl
 refused_there fault.NoTable = refl
 refused_there fault.Denied = refl

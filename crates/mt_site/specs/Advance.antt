@@ -1,31 +1,21 @@
 -- What becomes of two primaries as a stream is advanced between them (this profile's own).
 use Rattle.std.specs.Prelude.{◌≡◌, ◌≢◌, ◌≤◌, ℕ, Bool, true, false, List, length, Option, None, Some, Result, Ok, Err}
 use Rattle.mt_event.specs.declared.reason.Reason.{Reason}
-use Rattle.mt_event.specs.declared.reason.Reason.TheVariants as reason
 use Rattle.mt_event.specs.Reasons.{reason_from}
-use Rattle.mt_plain.specs.Events.{StreamName, forward, back, running, Answer, advanced, refused, no_shard, stream_stopped}
+use Rattle.mt_plain.specs.Events.{StreamName, running, Answer, advanced, refused, no_shard, stream_stopped}
 use Rattle.mt_plain.specs.Plain.{among}
 use Rattle.mt_plain.specs.Slots.{read_side, written_side}
 use Rattle.mt_primary.specs.Primary.{PrimaryState, end_of, has_table}
 use Rattle.mt_stream.specs.declared.fault.StreamFault.{StreamFault}
-use Rattle.mt_stream.specs.declared.fault.StreamFault.TheVariants as stream
 use Rattle.mt_stream.specs.declared.stream.Advanced.{Advanced}
 use Rattle.mt_stream.specs.Advance.{Advances}
 use Rattle.mt_stream.specs.Streams.{StreamValue}
 use Rattle.mt_workflow.specs.Advance.{AdvancesSlot}
 use Rattle.mt_workflow.specs.Workflows.{WorkflowState, live_of, slot_of, with_slot}
 use Rattle.mt_stands.specs.Answers.{answer_by_stream}
-use Rattle.mt_primary.specs.Places.{with_one}
-use Rattle.mt_primary.specs.Primaries.{Primaries, ShardsState, count_of, primary_in, primary_of, with_primary}
+use Rattle.mt_primary.specs.Primaries.{Primaries, count_of, primary_of, with_primary}
 use Rattle.mt_stands.specs.Base.{Workflows, workflow_at}
 use Rattle.mt_stands.specs.Workflows.{shard_read, shard_written}
-
-abbrev pub refusal_by_stream : StreamFault → Reason
-refusal_by_stream stream.Memory = reason.Memory
-refusal_by_stream (stream.Stale position) = reason.Stale position
-refusal_by_stream stream.Stopped = reason.StreamStopped
-refusal_by_stream stream.Frozen = reason.StreamStopped
-refusal_by_stream stream.LogFull = reason.Full
 
 -- the answer of an advance that is done, with its counts, or refused
 abbrev pub advanced_from : Result Advanced Reason → Answer
@@ -36,40 +26,6 @@ advanced_from (Err r) = refused (reason_from r)
 abbrev pub answer_by_slot : Option (Result Advanced StreamFault) → Answer
 answer_by_slot None = refused stream_stopped
 answer_by_slot (Some result) = answer_by_stream result
-
--- ---- between the shards of both sides, of which the source has one
-
--- the primary that a stream of a shard reads, and the one that it writes
-abbrev pub read_beside : StreamName → (source target : ShardsState) → (shard : ℕ) → PrimaryState
-read_beside forward source target shard = primary_in source 0
-read_beside back source target shard = primary_in target shard
-
-abbrev pub written_beside : StreamName → (source target : ShardsState) → (shard : ℕ) → PrimaryState
-written_beside forward source target shard = primary_in target shard
-written_beside back source target shard = primary_in source 0
-
--- the shards of each side, with another primary where such a stream writes
-abbrev pub source_beside : StreamName → (source : ShardsState) → PrimaryState → ShardsState
-source_beside forward source sink = source
-source_beside back source sink = with_one source 0 sink
-
-abbrev pub target_beside : StreamName → (target : ShardsState) → (shard : ℕ) → PrimaryState → ShardsState
-target_beside forward target shard sink = with_one target shard sink
-target_beside back target shard sink = target
-
--- a stream stands between two primaries: its position lies in the log that it reads, which keeps the entries from there on if the stream runs,
--- and its tables are there where it writes
-pub record StandsBetween (stream : StreamValue) (source sink : PrimaryState) : Type 0 where
-  pub within : stream.position ≤ end_of source
-  pub kept : stream.state ≡ running → source.log.purged ≤ stream.position
-  pub there : (table : List ℕ) → among stream.tables table ≡ true → has_table sink table ≡ true
-
--- the stream of a shard advances, if there is one, and the primary that it writes becomes another
-abbrev pub AdvancesBeside : (source target : ShardsState) → WorkflowState → StreamName → (shard at at_most : ℕ) → Option (Result Advanced StreamFault) → WorkflowState → (from to : ShardsState) → Type 0
-AdvancesBeside source target w name shard at at_most answer after from to =
-    (sink : PrimaryState)
-    × AdvancesSlot (slot_of w shard name) (read_beside name source target shard) (written_beside name source target shard) at at_most answer (slot_of after shard name) sink
-    × (after ≡ with_slot w shard name (slot_of after shard name)) × (from ≡ source_beside name source sink) × (to ≡ target_beside name target shard sink)
 
 -- ---- between the primaries of both sides, among all
 

@@ -1,39 +1,16 @@
--- What the controller tells of the refusals of its layers, and what becomes of primaries and of the topology as a table is made and taken
--- back (this profile's own).
+-- What becomes of primaries and of the topology as a table is made and taken back, and what the controller tells of a row (this profile's own).
 use Rattle.std.specs.Prelude.{◌≡◌, ⊤, ℕ, ◌<◌, false, List, is_some, length, Option, Result, Ok, Err}
 use Rattle.mt_model.specs.declared.entries.Entry.TheVariants.{Present}
 use Rattle.mt_model.specs.declared.entries.EntryKey.TheVariants as about
 use Rattle.mt_model.specs.declared.faults.PrimaryFault.{PrimaryFault}
-use Rattle.mt_model.specs.declared.faults.PrimaryFault.TheVariants as primary
-use Rattle.mt_model.specs.declared.faults.TopologyFault.{TopologyFault}
-use Rattle.mt_model.specs.declared.faults.TopologyFault.TheVariants as topology
 use Rattle.mt_model.specs.Topology.{TopologyState, has_place, is_present, keyspace_at, with_entry, with_keyspace_state, without_table_place}
 use Rattle.mt_event.specs.declared.reason.Reason.{Reason}
-use Rattle.mt_event.specs.declared.reason.Reason.TheVariants as reason
 use Rattle.mt_event.specs.Reasons.{reason_from}
 use Rattle.mt_model.specs.Rows.{RowValue}
 use Rattle.mt_plain.specs.Events.{Answer, refused, row}
 use Rattle.mt_primary.specs.Primary.{has_table}
 use Rattle.mt_primary.specs.Writes.{with_new_table}
 use Rattle.mt_primary.specs.Primaries.{Primaries, count_of, has_primaries, primary_of, with_all}
-
-abbrev pub refusal_by_topology : TopologyFault → Reason
-refusal_by_topology topology.Memory = reason.Memory
-refusal_by_topology topology.NoKeyspace = reason.NoKeyspace
-refusal_by_topology topology.NoTable = reason.NoTable
-refusal_by_topology topology.Exists = reason.Exists
-refusal_by_topology other = reason.Full
-
-abbrev pub refusal_by_primary : PrimaryFault → Reason
-refusal_by_primary primary.Memory = reason.Memory
-refusal_by_primary primary.NoTable = reason.NoTable
-refusal_by_primary primary.Denied = reason.Denied
-refusal_by_primary primary.RowExists = reason.RowExists
-refusal_by_primary primary.NoRow = reason.NoRow
-refusal_by_primary primary.TooLong = reason.TooLong
-refusal_by_primary primary.LogFull = reason.Full
--- a write is never told this
-refusal_by_primary primary.Purged = reason.Full
 
 -- the answer of a row that is read, or not
 abbrev pub read_from : Result (Option RowValue) Reason → Answer

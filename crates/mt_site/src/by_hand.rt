@@ -14,28 +14,15 @@ ghost use Rattle.mt_primary.specs.Primaries as by_shard;
 ghost use Rattle.mt_stands.specs.ByHand.{AddsKeyspace, AddsTable, EditsRule, is_owned};
 ghost use Rattle.mt_stands.specs.Base as base;
 ghost use Rattle.mt_moves.specs.Target.{changed_to};
-ghost use Rattle.mt_site.specs.ByHand.{AreTables, CreatesTable, refusal_by_topology, without_table};
+ghost use Rattle.mt_site.specs.ByHand.{AreTables, CreatesTable, without_table};
 
 use crate::{Primaries, Workflows};
 use mt_event::Reason;
-use mt_model::{Entry, EntryKey, MAX_KEYSPACES, PrimaryFault, TopologyFault};
+use mt_model::{Entry, EntryKey, MAX_KEYSPACES, PrimaryFault};
 use mt_names::{KeyspaceName, RuleKey, RuleTarget, ShardList, TableName};
 use mt_primary::Primary;
 use mt_topology::Topology;
 use mt_workflow::Workflow;
-
-/// The refusal of the core for one of the topology.
-pub(crate) fn refusal_by_topology(fault: TopologyFault) -> Reason
-    ensures { result ≡ refusal_by_topology fault }
-{
-    match fault {
-        TopologyFault::Memory => Reason::Memory,
-        TopologyFault::NoKeyspace => Reason::NoKeyspace,
-        TopologyFault::NoTable => Reason::NoTable,
-        TopologyFault::Exists => Reason::Exists,
-        TopologyFault::Ambiguous | TopologyFault::Full | TopologyFault::BadDump => Reason::Full,
-    }
-}
 
 /// Adds a keyspace with an empty primary for each of its shards. All memory is taken before anything is added.
 pub(crate) fn add_keyspace(
@@ -59,7 +46,7 @@ pub(crate) fn add_keyspace(
     }
     if let Err(fault) = topology.add_keyspace(name, shards.copied()) {
         primaries.pop();
-        return Err(refusal_by_topology(fault));
+        return Err(Reason::from(fault));
     }
     Ok(())
 }
@@ -127,9 +114,7 @@ pub(crate) fn add_table(
     ensures { (workflows : base.Workflows) → AddsTable (record { topology = topology.old; primaries = primaries.old; workflows = workflows }) keyspace.now table.now (done_by result)
         (record { topology = topology.new; primaries = primaries.new; workflows = workflows }) }
 {
-    if let Err(fault) = topology.add_table(keyspace, table) {
-        return Err(refusal_by_topology(fault));
-    }
+    topology.add_table(keyspace, table)?;
     if create_table_at(primaries, keyspace, table).is_err() {
         take_table(topology, keyspace, table);
         return Err(Reason::Memory);
@@ -187,8 +172,5 @@ pub(crate) fn edit_rule(
     if is_owned(workflows, key) {
         return Err(Reason::RuleOwned);
     }
-    match topology.edit_rule(key, target) {
-        Ok(()) => Ok(()),
-        Err(fault) => Err(refusal_by_topology(fault)),
-    }
+    Ok(topology.edit_rule(key, target)?)
 }

@@ -15,10 +15,8 @@ pub(crate) fn done(told: Result<(), Reason>) -> Result<Reply, Refusal>
     ensures answer { answer_from result ≡ done_by told }
     ensures ok { is_ok result ≡ is_ok told }
 {
-    match told {
-        Ok(()) => Ok(Reply::Done),
-        Err(reason) => Err(Refusal::from(reason)),
-    }
+    told?;
+    Ok(Reply::Done)
 }
 
 /// The reply to a Create.
@@ -26,10 +24,8 @@ pub(crate) fn created(told: Result<(), Refusal>) -> Result<Reply, Refusal>
     ensures answer { answer_from result ≡ done_from told }
     ensures ok { is_ok result ≡ is_ok told }
 {
-    match told {
-        Ok(()) => Ok(Reply::Done),
-        Err(refusal) => Err(refusal),
-    }
+    told?;
+    Ok(Reply::Done)
 }
 
 /// The reply to a read.
@@ -37,10 +33,7 @@ pub(crate) fn row(told: Result<Option<Value>, Reason>) -> Result<Reply, Refusal>
     ensures answer { answer_from result ≡ read_from told }
     ensures ok { is_ok result ≡ is_ok told }
 {
-    match told {
-        Ok(row) => Ok(Reply::Row(row)),
-        Err(reason) => Err(Refusal::from(reason)),
-    }
+    Ok(Reply::Row(told?))
 }
 
 /// The reply to an advance.
@@ -48,10 +41,7 @@ pub(crate) fn advanced(told: Result<Advanced, Reason>) -> Result<Reply, Refusal>
     ensures answer { answer_from result ≡ advanced_from told }
     ensures ok { is_ok result ≡ is_ok told }
 {
-    match told {
-        Ok(counts) => Ok(Reply::Advanced(counts)),
-        Err(reason) => Err(Refusal::from(reason)),
-    }
+    Ok(Reply::Advanced(told?))
 }
 
 /// The reply to a Show.
@@ -59,8 +49,5 @@ pub(crate) fn show(told: Result<ShownOf<'_>, Reason>) -> Result<Reply, Refusal>
     ensures answer { answer_from result ≡ shown_answer told.entry }
     ensures ok { is_ok result ≡ is_ok told.entry }
 {
-    match told {
-        Ok(shown) => Ok(Reply::Shown(shown.owned())),
-        Err(reason) => Err(Refusal::from(reason)),
-    }
+    Ok(Reply::Shown(told?.owned()))
 }

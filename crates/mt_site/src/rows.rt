@@ -5,11 +5,11 @@ ghost use Rattle.mt_model.specs.Topology.{TopologyState};
 ghost use Rattle.mt_stands.specs.ByHand.{read_at};
 ghost use Rattle.mt_primary.specs.Primaries.{shards_at};
 ghost use Rattle.mt_site.specs.Applies.{WritesAndPurges};
-ghost use Rattle.mt_site.specs.ByHand.{read_from, refusal_by_primary};
+ghost use Rattle.mt_site.specs.ByHand.{read_from};
 
 use crate::{Primaries, Workflows};
 use mt_event::Reason;
-use mt_model::{Op, PrimaryFault};
+use mt_model::Op;
 use mt_moves::purge_whole;
 use mt_names::{KeyspaceName, TableName, TabletType, Value};
 
@@ -28,23 +28,6 @@ pub(crate) const NOWHERE: Hint = Hint {
     keyspace: usize::MAX,
     table: usize::MAX,
 };
-
-/// The refusal of the core for one of a primary.
-#[inline(always)]
-fn refusal_by_primary(fault: PrimaryFault) -> Reason
-    ensures { result ≡ refusal_by_primary fault }
-{
-    match fault {
-        PrimaryFault::Memory => Reason::Memory,
-        PrimaryFault::NoTable => Reason::NoTable,
-        PrimaryFault::Denied => Reason::Denied,
-        PrimaryFault::RowExists => Reason::RowExists,
-        PrimaryFault::NoRow => Reason::NoRow,
-        PrimaryFault::TooLong => Reason::TooLong,
-        // A write is never told the second.
-        PrimaryFault::LogFull | PrimaryFault::Purged => Reason::Full,
-    }
-}
 
 /// Writes a row at the primary of the shard that its key stands in, wherever its keyspace stands, and purges its log as a segment gets
 /// whole.
@@ -66,13 +49,9 @@ pub(crate) fn write_row(
     };
     let shard = primaries.find(place, op.key());
     let primary = primaries.shard_mut(place, shard);
-    match primary.write_placed(hint.table, table, op) {
-        Ok(_) => {
-            purge_whole(workflows, keyspace, usize::from(shard), primary);
-            Ok(())
-        }
-        Err(fault) => Err(refusal_by_primary(fault)),
-    }
+    primary.write_placed(hint.table, table, op)?;
+    purge_whole(workflows, keyspace, usize::from(shard), primary);
+    Ok(())
 }
 
 /// Reads a row at the primary of the shard that its key stands in, wherever its keyspace stands, as a tablet of this type has it.
@@ -90,11 +69,6 @@ pub(crate) fn read_row(
     let Some(place) = primaries.place_near(hint.keyspace, keyspace) else {
         return Err(Reason::NoKeyspace);
     };
-    match primaries
-        .at(place, key)
-        .read_placed(hint.table, table, key, tablet_type)
-    {
-        Ok(row) => Ok(row),
-        Err(fault) => Err(refusal_by_primary(fault)),
-    }
+    let primary = primaries.at(place, key);
+    Ok(primary.read_placed(hint.table, table, key, tablet_type)?)
 }

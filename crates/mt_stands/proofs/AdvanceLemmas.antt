@@ -36,7 +36,8 @@ use Rattle.mt_laws.proofs.LaneLemmas.{shard-advanced}
 use Rattle.mt_laws.proofs.LiveLemmas.{find-map}
 use Rattle.mt_laws.specs.Pending.{pending}
 use Rattle.mt_stands.specs.Rows.{HoldsItsKeys, KeepsEndOf, IsPending, IsStreamOf, OthersStay, Primaries, RowsStand, entry_at, is_moved, owner_shard, rows_before, stream_of, write_of}
-use Rattle.mt_stands.proofs.FeedLemmas.{AllMoved, IsMoved, all_append, all_take, applied_logged, applied_moved, changes_logged, copied_same, drop_more, fold_passed, fold_read, fold_untouched, lane_test, left_moved, moved_entries, moved_to, none_moved, same_end, slot_goes, take_more, take_none, take_passing, tests_are}
+use Rattle.mt_stands.proofs.FeedLemmas.{AllMoved, IsMoved, all_append, all_take, applied_logged, applied_moved, changes_logged, copied_same, fold_passed, fold_read, fold_untouched, lane_test, left_moved, moved_entries, moved_to, none_moved, same_end, slot_goes, take_more, take_none, take_passing, tests_are}
+use Rattle.mt_laws.proofs.PastLemmas.{drop_twice}
 use Rattle.mt_stands.proofs.KnownLemmas.{Known, differs, in_lane_is, itself, lane_here, numbered, row_at_other, row_at_owner, row_elsewhere, row_free, same_at_all, same_or, same_place, shard_owned, side_either, sides_apart, some_is, written_is_side}
 use Rattle.mt_stands.proofs.StreamLemmas.{copy_places, has_at_side, past_is, reads_owner, source_row}
 
@@ -492,9 +493,9 @@ module _ (p : Plain) (known : Known p) (streams : KnownStreams p) (old new : Pri
                 ap (λ n. filter (λ (c : RowChange). eqb (shard_of w.cuts c.key) n && moves w c.table) source.log.entries) shard_same ∙ was.entries
                 ∙ ap (λ l. was.before ++ l) (sym (take-append-drop more was.left)) ∙ sym (append_assoc was.before (take more was.left) (drop more was.left));
             writes =
-                sym (drop-map (write_of p w) more was.left) ∙ ap (drop more) was.writes ∙ drop_more lane.fed more all ∙ ap (drop (lane.fed + more)) (sym writes_same);
+                sym (drop-map (write_of p w) more was.left) ∙ ap (drop more) was.writes ∙ drop_twice lane.fed more all ∙ ap (drop (lane.fed + more)) (sym writes_same);
             rows =
-                sym (drop-map (λ (c : RowChange). c.before) more was.left) ∙ ap (drop more) was.rows ∙ drop_more lane.fed more (rows_before [] all)
+                sym (drop-map (λ (c : RowChange). c.before) more was.left) ∙ ap (drop more) was.rows ∙ drop_twice lane.fed more (rows_before [] all)
                 ∙ ap (λ ws. drop (lane.fed + more) (rows_before [] ws)) (sym writes_same);
           })
 

@@ -19,20 +19,9 @@ use Rattle.mt_plain.specs.Refuse.{at_rest, in_workflow, or_else, refuse_if}
 use Rattle.mt_plain.specs.Serve.{serve, serve_plain, serve_rule, served_by, served_entry, step_of_entry, types_by}
 use Rattle.mt_stands.specs.Topologies.{TopologyStands}
 use Rattle.mt_stands.proofs.PartLemmas.{part_entry}
+use Rattle.mt_laws.proofs.RefusalLemmas.{in_workflow-none, or_else-none, refuse_if-none}
 
 -- ---- what stands where an event is not refused
-
-pub or_else-none : (o next : Option Refusal) → or_else o next ≡ None → (o ≡ None) × (next ≡ None)
-or_else-none None next e = (refl, e)
-or_else-none (Some refusal) next e = absurd cc
-
-pub refuse_if-none : (test : Bool) (refusal : Refusal) → refuse_if test refusal ≡ None → test ≡ false
-refuse_if-none true refusal e = absurd cc
-refuse_if-none false refusal e = refl
-
-pub in_workflow-none : (o : Option Live) (refusal : Live → Option Refusal) → in_workflow o refusal ≡ None → (w : Live) × (o ≡ Some w) × (refusal w ≡ None)
-in_workflow-none None refusal e = absurd cc
-in_workflow-none (Some w) refusal e = (w, refl, e)
 
 pub at_rest-none : (w : Live) (o : Option Refusal) → at_rest w o ≡ None → w.way ≡ None
 at_rest-none w o e = none_from w.way (refuse_if-none (is_some w.way) under_way (or_else-none (refuse_if (is_some w.way) under_way) o e).0)

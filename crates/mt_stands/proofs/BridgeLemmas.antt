@@ -15,6 +15,7 @@ use Rattle.mt_primary.specs.Primary.{end_of, PrimaryState, TableState, has_table
 use Rattle.mt_primary.specs.Writes.{with_new_table, without_table}
 use Rattle.mt_stands.specs.Rows.{OtherTablesStay}
 use Rattle.mt_stands.proofs.KnownLemmas.{differs, itself, same_or}
+use Rattle.mt_laws.proofs.EffectLemmas.{or-false}
 
 -- none of the tables is there
 abbrev pub AreAbsent : PrimaryState → List (List ℕ) → Type 0
@@ -97,14 +98,10 @@ log-all_dropped : (tables : List (List ℕ)) (p : PrimaryState) → (fold withou
 log-all_dropped [] p = refl
 log-all_dropped (name ∷ tables) p = log-all_dropped tables (without_table p name)
 
-other_parts : (a b : Bool) → (a || b) ≡ false → (a ≡ false) × (b ≡ false)
-other_parts true b e = absurd (true≢false e)
-other_parts false b e = (refl, e)
-
 found-others : (tables : List (List ℕ)) (p : PrimaryState) (table : List ℕ) → among tables table ≡ false → table_at (fold without_table p tables) table ≡ table_at p table
 found-others [] p table other = refl
 found-others (name ∷ tables) p table other =
-    let parts = other_parts (same_text name table) (among tables table) other in
+    let parts = or-false (same_text name table) (among tables table) other in
     found-others tables (without_table p name) table parts.1
     ∙ lookup-remove_entry_elsewhere same_text same_text_decides p.tables name table (λ e. true≢false (sym ((same_text_decides name table).1 e) ∙ parts.0))
 

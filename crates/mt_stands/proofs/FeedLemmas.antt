@@ -24,6 +24,8 @@ use Rattle.mt_stream.specs.Advance.{applies, left_in, places, row_copied, rows_o
 use Rattle.mt_stream.specs.Puts.{RowsByKey, changes_by, rows_after_put}
 use Rattle.mt_stands.specs.Rows.{HoldsItsKeys, entry_at, is_moved, stream_of, write_of}
 use Rattle.mt_stands.proofs.KnownLemmas.{Known, client_at_side, has_at_source, itself, source_is_side}
+use Rattle.mt_laws.proofs.AllWritesLemmas.{filter_same}
+use Rattle.mt_laws.proofs.PastLemmas.{drop_twice}
 
 -- ---- lists
 
@@ -37,11 +39,6 @@ drop_none (suc n) = refl
 pub take_none : {X : Type 0} (n : ℕ) → take n (none_of X) ≡ none_of X
 take_none zero = refl
 take_none (suc n) = refl
-
-pub drop_more : {X : Type 0} (n m : ℕ) (xs : List X) → drop m (drop n xs) ≡ drop (n + m) xs
-drop_more zero m xs = let e : 0 + m ≡ m = omega arith in ap (λ k. drop k xs) (sym e)
-drop_more {X} (suc n) m [] = drop_none {X = X} m ∙ sym (drop_none {X = X} (suc n + m))
-drop_more (suc n) m (x ∷ xs) = drop_more n m xs ∙ (let e : suc (n + m) ≡ suc n + m = omega arith in ap (λ k. drop k (x ∷ xs)) e)
 
 pub take_more : {X : Type 0} (n m : ℕ) (xs : List X) → take (n + m) xs ≡ take n xs ++ take m (drop n xs)
 take_more zero m xs = let e : 0 + m ≡ m = omega arith in ap (λ k. take k xs) e
@@ -81,10 +78,6 @@ changes_logged k n rows (put ∷ puts) = ap (λ l. entry_of_row k n (put.table, 
 -- whether a lane's stream writes an entry, by the keys of its shard
 abbrev pub lane_test : Live → Lane → RowChange → Bool
 lane_test w lane c = in_lane w lane c.key && is_applied w.tables lane.copied c.table c.key
-
-pub filter_same : {X : Type 0} (f g : X → Bool) (xs : List X) → ((x : X) → f x ≡ g x) → filter f xs ≡ filter g xs
-filter_same f g [] same = refl
-filter_same f g (x ∷ xs) same = ap (λ b. cond b (x ∷ filter f xs) (filter f xs)) (same x) ∙ ap (λ l. cond (g x) (x ∷ l) l) (filter_same f g xs same)
 
 module _ (w : Live) (lane : Lane) (slot : Slot) (split : HoldsItsKeys w lane) where
   pub test_is : (c : RowChange) → applies (stream_of w lane slot) c ≡ lane_test w lane c

@@ -29,6 +29,7 @@ use Rattle.mt_stands.specs.Rows.{KeepsEndOf, IsPending, Primaries, RowsStand, is
 use Rattle.mt_stands.proofs.BeforeLemmas.{rows_before-length}
 use Rattle.mt_stands.proofs.UnreadLemmas.{StreamsGoOn, unread_next}
 use Rattle.mt_stands.proofs.KnownLemmas.{Known, client_at_side, numbered, owner_is_side, row_at_other, row_at_owner, row_elsewhere, row_free, same_or, some_is}
+use Rattle.mt_laws.proofs.AdvanceLemmas.{any-map}
 
 -- the other side is level with the owner: all was fed, and it has the owner's rows
 pub record IsLevel (p : Plain) (w : Live) : Type 0 where
@@ -329,15 +330,11 @@ module _ (p q : Plain) (numbers : q.numbers ≡ p.numbers) (made : q.made ≡ p.
 
 -- ---- the tables that are there
 
-any_map : {X : Type 0} (test : X → Bool) (f : X → X) (xs : List X) → ((x : X) → test (f x) ≡ test x) → list_any test (map f xs) ≡ list_any test xs
-any_map test f [] same = refl
-any_map test f (x ∷ xs) same = ap (λ b. b || list_any test (map f xs)) (same x) ∙ ap (λ b. test x || b) (any_map test f xs same)
-
 -- a workflow changes and keeps its sides and tables
 pub any_changed : (lives : List Live) (name : List ℕ) (f : Live → Live) → ((w : Live) → HasSides w (f w)) → (keyspace table : List ℕ)
     → list_any (λ w. moves w table && same_text w.target keyspace) (with_live f name lives) ≡ list_any (λ w. moves w table && same_text w.target keyspace) lives
 any_changed lives name f same keyspace table =
-    any_map (λ (w : Live). moves w table && same_text w.target keyspace) (λ (w : Live). cond (same_text w.name name) (f w) w) lives
+    any-map (λ (w : Live). moves w table && same_text w.target keyspace) (λ (w : Live). cond (same_text w.name name) (f w) w) lives
     (λ w. by w (same_text w.name name))
   where
     by : (w : Live) (b : Bool) → (moves (cond b (f w) w) table && same_text (cond b (f w) w).target keyspace) ≡ (moves w table && same_text w.target keyspace)

@@ -18,7 +18,7 @@ use Rattle.mt_plain.specs.Refuse.{refusal_of, refuse_if, rule_refusal}
 use Rattle.mt_laws.specs.Changes.{ChangesTopology, HasSides}
 use Rattle.mt_laws.specs.Reached.{IsInPlace}
 use Rattle.mt_stands.specs.Keys.{IsKept}
-use Rattle.mt_stands.proofs.BeginLemmas.{or_else-none, refuse_if-none}
+use Rattle.mt_laws.proofs.RefusalLemmas.{or_else-none, refuse_if-none}
 use Rattle.mt_stands.proofs.CancelLemmas.{gone}
 use Rattle.mt_stands.proofs.EndLemmas.{rule_ended}
 use Rattle.mt_stands.proofs.StandLemmas.{IsOwned, same_part}

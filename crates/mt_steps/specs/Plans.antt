@@ -5,7 +5,7 @@ use Rattle.mt_names.specs.declared.types.TypeSet.{TypeSet}
 use Rattle.mt_names.specs.Types.{no_types}
 use Rattle.mt_plain.specs.Events.{Way}
 use Rattle.mt_plain.specs.Plain.{allow_target, behind_last, catch_up, changes_primary, create_back, deny_source, first_step, freeze_old, refresh_source, refresh_target, shard_at_place, start_back, step_at_place, stop_feeding, switch_reads, switch_write_rules, write_journal}
-use Rattle.mt_steps.specs.declared.plan.Place.{Place}
+use Rattle.mt_steps.specs.declared.plan.PlannedStep.{PlannedStep}
 use Rattle.mt_steps.specs.declared.step.Step.{Step}
 use Rattle.mt_steps.specs.declared.step.Step.TheVariants.{SwitchReads, DenySource, RefreshSource, CatchUp, StopFeeding, CreateBack, Journal, AllowTarget, RefreshTarget, SwitchWriteRules, StartBack, FreezeOld}
 
@@ -49,13 +49,13 @@ abbrev pub way_of : (back : Bool) → TypeSet → (shards : ℕ) → Way
 way_of back types shards = record { back = back; shards = shards; before = no_types; after = types; done = 0; undoing = false }
 
 -- what is done at a place of a way's plan (this profile's own)
-abbrev pub place_at : Way → (place : ℕ) → Place
-place_at way place = record { step = step_at (step_at_place way place); shard = shard_at_place way place }
+abbrev pub planned_at : Way → (place : ℕ) → PlannedStep
+planned_at way place = record { step = step_at (step_at_place way place); shard = shard_at_place way place }
 
 -- how many places a plan has more than steps: one for each shard of the target but the first, where it switches writes
 abbrev pub later_shards : Way → ℕ
 later_shards way = if changes_primary way then way.shards - 1 else 0
 
 -- the places of the plan of a way, in their order (How traffic is switched)
-abbrev pub plan_of : Way → List Place
-plan_of way = map (place_at way) (range_with_len (first_step way) (behind_last way + later_shards way - first_step way))
+abbrev pub plan_of : Way → List PlannedStep
+plan_of way = map (planned_at way) (range_with_len (first_step way) (behind_last way + later_shards way - first_step way))

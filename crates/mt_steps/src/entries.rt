@@ -1,35 +1,39 @@
 //! The entries that a step writes, and what stood before them.
-ghost use Rattle.std.specs.Prelude.{◌≡◌, ◌≢◌, ℕ, true, false, List, fold, if◌then◌else◌, map, not, option_copied};
+ghost use Rattle.std.specs.Prelude.{◌≡◌, ◌≢◌, ◌==◌, true, false, List, ℕ, fold, if◌then◌else◌, map, not, option_copied};
 ghost use Rattle.mt_model.specs.declared.entries.Entry.{Entry};
 ghost use Rattle.mt_model.specs.declared.entries.EntryKey.{EntryKey};
 ghost use Rattle.mt_model.specs.Part.{keys_of_name};
 ghost use Rattle.mt_model.specs.Topology.{has_place, key_of};
-ghost use Rattle.mt_workflow.specs.Workflows.{WorkflowState};
+ghost use Rattle.mt_plain.specs.Plain.{allow_target, deny_source, switch_reads, switch_write_rules};
+ghost use Rattle.mt_plain.specs.Serve.{owned_before};
+ghost use Rattle.mt_workflow.specs.Workflows.{WorkflowState, live_of};
 ghost use Rattle.mt_steps.specs.Entries.{HavePlaces, is_of_step, swept, with_recorded, with_wanted};
-ghost use Rattle.mt_steps.specs.Records.{denial_step, denied_after, entries_of, name_entries, table_entries};
+ghost use Rattle.mt_steps.specs.Plans.{number};
+ghost use Rattle.mt_steps.specs.Records.{denied_after, entries_of, name_entries, table_entries};
 
 use crate::records::{NameMarks, NameRules, RuleMark, TableRecord, rule_names};
+use crate::step::Step;
 use mt_model::key_of_name;
 use mt_names::{KeyspaceName, TableName, TabletType, TypeSet};
 use mt_topology::Topology;
 use mt_workflow::Workflow;
 
-/// The number of the step with which the denial at a side changes.
-fn denial_step(workflow: &Workflow, side: &KeyspaceName) -> u8
-    ensures { result ≡ denial_step workflow.now side.now }
+/// Whether the target, or the source, is the old owner. No name is read for it.
+fn is_old_owner(workflow: &Workflow, is_target: bool) -> bool
+    requires { workflow.now.source ≢ workflow.now.target }
+    ensures { result ≡ owned_before (live_of workflow.now) (if is_target then workflow.now.target else workflow.now.source) }
 {
-    if workflow.owned_before(side) { 1 } else { 7 }
+    workflow.types_before().primary == is_target
 }
 
-/// The number of the step with which the denial at the target changes, or that at the source. No name is read for it.
-fn denial_step_of_side(workflow: &Workflow, is_target: bool) -> u8
-    requires { workflow.now.source ≢ workflow.now.target }
-    ensures { result ≡ denial_step workflow.now (if is_target then workflow.now.target else workflow.now.source) }
+/// Whether the denial at a side changes with a step, where that side is the old owner, or the new one.
+fn is_denial_step(step: Step, is_old_owner: bool) -> bool
+    ensures { result ≡ ((if is_old_owner then deny_source else allow_target) == number step) }
 {
-    if workflow.types_before().primary == is_target {
-        1
-    } else {
-        7
+    match step {
+        Step::DenySource => is_old_owner,
+        Step::AllowTarget => !is_old_owner,
+        _ => false,
     }
 }
 
@@ -44,12 +48,15 @@ fn is_side_denied(types: TypeSet, is_target: bool) -> bool
     }
 }
 
-/// Whether any entry may change with a step: 0 the reads, 1 the denial of the tables at the old owner, 7 their release at the new
-/// owner, 9 the plain rules. With the others none does, of whatever workflow. (Vitess: how traffic is switched)
-fn writes_entries(step: u8) -> bool
-    ensures { result ≡ false → (w : WorkflowState) (key : EntryKey) → is_of_step w step key ≡ false }
+/// Whether any entry may change with a step: the reads, the denial of the tables at the old owner, their release at the new owner, the
+/// plain rules. With the others none does, of whatever workflow. (Vitess: how traffic is switched)
+fn writes_entries(step: Step) -> bool
+    ensures { result ≡ false → (w : WorkflowState) (key : EntryKey) → is_of_step w (number step) key ≡ false }
 {
-    matches!(step, 0 | 1 | 7 | 9)
+    matches!(
+        step,
+        Step::SwitchReads | Step::DenySource | Step::AllowTarget | Step::SwitchWriteRules
+    )
 }
 
 /// Writes each entry of the records that changes with a step as it is to be once these types are switched, and records of it what the
@@ -58,13 +65,13 @@ pub(crate) fn exchange_step(
     topology: &mut Topology,
     workflow: &Workflow,
     types: TypeSet,
-    step: u8,
+    step: Step,
     records: &mut [TableRecord],
 )
     requires apart { workflow.now.source ≢ workflow.now.target }
     requires places { HavePlaces topology.old (map key_of (entries_of workflow.now.source workflow.now.target records.old)) }
-    ensures recorded { entries_of workflow.now.source workflow.now.target records.new ≡ swept workflow.now types step topology.old (entries_of workflow.now.source workflow.now.target records.old) }
-    ensures written { topology.new ≡ fold (with_wanted workflow.now types step) topology.old (map key_of (entries_of workflow.now.source workflow.now.target records.old)) }
+    ensures recorded { entries_of workflow.now.source workflow.now.target records.new ≡ swept workflow.now types (number step) topology.old (entries_of workflow.now.source workflow.now.target records.old) }
+    ensures written { topology.new ≡ fold (with_wanted workflow.now types (number step)) topology.old (map key_of (entries_of workflow.now.source workflow.now.target records.old)) }
 {
     if !writes_entries(step) {
         return;
@@ -79,22 +86,22 @@ fn exchange_table(
     topology: &mut Topology,
     workflow: &Workflow,
     types: TypeSet,
-    step: u8,
+    step: Step,
     noted: &mut TableRecord,
 )
     requires apart { workflow.now.source ≢ workflow.now.target }
     requires places { HavePlaces topology.old (map key_of (table_entries workflow.now.source workflow.now.target noted.old)) }
-    ensures recorded { table_entries workflow.now.source workflow.now.target noted.new ≡ swept workflow.now types step topology.old (table_entries workflow.now.source workflow.now.target noted.old) }
-    ensures written { topology.new ≡ fold (with_wanted workflow.now types step) topology.old (map key_of (table_entries workflow.now.source workflow.now.target noted.old)) }
+    ensures recorded { table_entries workflow.now.source workflow.now.target noted.new ≡ swept workflow.now types (number step) topology.old (table_entries workflow.now.source workflow.now.target noted.old) }
+    ensures written { topology.new ≡ fold (with_wanted workflow.now types (number step)) topology.old (map key_of (table_entries workflow.now.source workflow.now.target noted.old)) }
 {
     match step {
-        0 => exchange_reads(topology, workflow, types, noted),
-        9 => exchange_writes(topology, workflow, types, noted),
+        Step::SwitchReads => exchange_reads(topology, workflow, types, noted),
+        Step::SwitchWriteRules => exchange_writes(topology, workflow, types, noted),
         _ => exchange_denials(topology, workflow, types, step, noted),
     }
 }
 
-/// Writes and records a table's entries of step 0: the rules of the types replica and rdonly, and the presence.
+/// Writes and records a table's entries of `SwitchReads`: the rules of the types replica and rdonly, and the presence.
 fn exchange_reads(
     topology: &mut Topology,
     workflow: &Workflow,
@@ -161,7 +168,7 @@ fn exchange_reads_of(
     topology.exchange_two(&name, reads, rules, &mut found.replica, &mut found.rdonly);
 }
 
-/// Writes and records a table's entries of step 9: the rules for all types, and those of primary.
+/// Writes and records a table's entries of `SwitchWriteRules`: the rules for all types, and those of primary.
 fn exchange_writes(
     topology: &mut Topology,
     workflow: &Workflow,
@@ -229,15 +236,15 @@ fn exchange_denials(
     topology: &mut Topology,
     workflow: &Workflow,
     types: TypeSet,
-    step: u8,
+    step: Step,
     noted: &mut TableRecord,
 )
     requires apart { workflow.now.source ≢ workflow.now.target }
     requires places { HavePlaces topology.old (map key_of (table_entries workflow.now.source workflow.now.target noted.old)) }
-    requires reads { step ≢ 0 }
-    requires rules { step ≢ 9 }
-    ensures recorded { table_entries workflow.now.source workflow.now.target noted.new ≡ swept workflow.now types step topology.old (table_entries workflow.now.source workflow.now.target noted.old) }
-    ensures written { topology.new ≡ fold (with_wanted workflow.now types step) topology.old (map key_of (table_entries workflow.now.source workflow.now.target noted.old)) }
+    requires reads { number step ≢ switch_reads }
+    requires rules { number step ≢ switch_write_rules }
+    ensures recorded { table_entries workflow.now.source workflow.now.target noted.new ≡ swept workflow.now types (number step) topology.old (table_entries workflow.now.source workflow.now.target noted.old) }
+    ensures written { topology.new ≡ fold (with_wanted workflow.now types (number step)) topology.old (map key_of (table_entries workflow.now.source workflow.now.target noted.old)) }
 {
     let table = &noted.table;
     let denied = &mut noted.is_denied_at_source;
@@ -251,17 +258,17 @@ fn exchange_denial(
     topology: &mut Topology,
     workflow: &Workflow,
     types: TypeSet,
-    step: u8,
+    step: Step,
     is_target: bool,
     table: &TableName,
     denied: &mut bool,
 )
     requires apart { workflow.now.source ≢ workflow.now.target }
     requires place { has_place topology.old (EntryKey.Denied (if is_target then workflow.now.target else workflow.now.source) table.now) ≡ true }
-    ensures recorded { denied.new ≡ denied_after workflow.now step topology.old (if is_target then workflow.now.target else workflow.now.source) table.now denied.old }
-    ensures written { topology.new ≡ with_wanted workflow.now types step topology.old (EntryKey.Denied (if is_target then workflow.now.target else workflow.now.source) table.now) }
+    ensures recorded { denied.new ≡ denied_after workflow.now (number step) topology.old (if is_target then workflow.now.target else workflow.now.source) table.now denied.old }
+    ensures written { topology.new ≡ with_wanted workflow.now types (number step) topology.old (EntryKey.Denied (if is_target then workflow.now.target else workflow.now.source) table.now) }
 {
-    if denial_step_of_side(workflow, is_target) == step {
+    if is_denial_step(step, is_old_owner(workflow, is_target)) {
         let side = workflow.side(is_target);
         *denied = topology.exchange_denied(side, table, is_side_denied(types, is_target));
     }
@@ -271,13 +278,13 @@ fn exchange_denial(
 pub(crate) fn write_back(
     topology: &mut Topology,
     workflow: &Workflow,
-    step: u8,
+    step: Step,
     source: &KeyspaceName,
     target: &KeyspaceName,
     records: &[TableRecord],
 )
     requires places { HavePlaces topology.old (map key_of (entries_of source.now target.now records.now)) }
-    ensures { topology.new ≡ fold (with_recorded workflow.now step) topology.old (entries_of source.now target.now records.now) }
+    ensures { topology.new ≡ fold (with_recorded workflow.now (number step)) topology.old (entries_of source.now target.now records.now) }
 {
     if !writes_entries(step) {
         return;
@@ -291,22 +298,22 @@ pub(crate) fn write_back(
 fn write_back_table(
     topology: &mut Topology,
     workflow: &Workflow,
-    step: u8,
+    step: Step,
     source: &KeyspaceName,
     target: &KeyspaceName,
     noted: &TableRecord,
 )
     requires places { HavePlaces topology.old (map key_of (table_entries source.now target.now noted.now)) }
-    ensures { topology.new ≡ fold (with_recorded workflow.now step) topology.old (table_entries source.now target.now noted.now) }
+    ensures { topology.new ≡ fold (with_recorded workflow.now (number step)) topology.old (table_entries source.now target.now noted.now) }
 {
     match step {
-        0 => write_back_reads(topology, source, target, noted),
-        9 => write_back_writes(topology, source, target, noted),
+        Step::SwitchReads => write_back_reads(topology, source, target, noted),
+        Step::SwitchWriteRules => write_back_writes(topology, source, target, noted),
         _ => write_back_denials(topology, workflow, step, source, target, noted),
     }
 }
 
-/// Writes back a table's entries of step 0: the rules of the types replica and rdonly, and the presence.
+/// Writes back a table's entries of `SwitchReads`: the rules of the types replica and rdonly, and the presence.
 fn write_back_reads(
     topology: &mut Topology,
     source: &KeyspaceName,
@@ -369,7 +376,7 @@ fn write_back_reads_of(
     topology.put_rule(&key, rule);
 }
 
-/// Writes back a table's entries of step 9: the rules for all types, and those of primary.
+/// Writes back a table's entries of `SwitchWriteRules`: the rules for all types, and those of primary.
 fn write_back_writes(
     topology: &mut Topology,
     source: &KeyspaceName,
@@ -434,15 +441,15 @@ fn write_back_writes_of(
 fn write_back_denials(
     topology: &mut Topology,
     workflow: &Workflow,
-    step: u8,
+    step: Step,
     source: &KeyspaceName,
     target: &KeyspaceName,
     noted: &TableRecord,
 )
     requires places { HavePlaces topology.old (map key_of (table_entries source.now target.now noted.now)) }
-    requires reads { step ≢ 0 }
-    requires rules { step ≢ 9 }
-    ensures { topology.new ≡ fold (with_recorded workflow.now step) topology.old (table_entries source.now target.now noted.now) }
+    requires reads { number step ≢ switch_reads }
+    requires rules { number step ≢ switch_write_rules }
+    ensures { topology.new ≡ fold (with_recorded workflow.now (number step)) topology.old (table_entries source.now target.now noted.now) }
 {
     let table = &noted.table;
     write_back_denial(
@@ -467,15 +474,15 @@ fn write_back_denials(
 fn write_back_denial(
     topology: &mut Topology,
     workflow: &Workflow,
-    step: u8,
+    step: Step,
     side: &KeyspaceName,
     table: &TableName,
     is_denied: bool,
 )
     requires { has_place topology.old (EntryKey.Denied side.now table.now) ≡ true }
-    ensures { topology.new ≡ with_recorded workflow.now step topology.old (Entry.Denied side.now table.now is_denied) }
+    ensures { topology.new ≡ with_recorded workflow.now (number step) topology.old (Entry.Denied side.now table.now is_denied) }
 {
-    if denial_step(workflow, side) == step {
+    if is_denial_step(step, workflow.owned_before(side)) {
         topology.put_denied(side, table, is_denied);
     }
 }

@@ -12,9 +12,9 @@ ghost use Rattle.mt_primary.specs.Denials.{is_named};
 ghost use Rattle.mt_primary.specs.Primary.{IsPrimary, PrimaryState, has_table, is_denied_at};
 ghost use Rattle.mt_stream.specs.Streams.{StreamValue};
 ghost use Rattle.mt_workflow.specs.Workflows.{WorkflowState, keys_of_part, with_slot};
-ghost use Rattle.mt_steps.specs.declared.plan.Place.{Place};
+ghost use Rattle.mt_steps.specs.declared.plan.PlannedStep.{PlannedStep};
 ghost use Rattle.mt_steps.specs.Entries.{HasPlaces, recorded, recorded_of, step_entries, step_keys};
-ghost use Rattle.mt_steps.specs.Plans.{number, place_at, plan_of, step_at, steps_of};
+ghost use Rattle.mt_steps.specs.Plans.{number, planned_at, plan_of, step_at, steps_of};
 ghost use Rattle.mt_steps.specs.Refreshes.{RefreshesSide, Sites};
 ghost use Rattle.mt_steps.specs.Shards.{target_at};
 ghost use Rattle.mt_steps.specs.Steps.{IsGivenBack};
@@ -27,11 +27,11 @@ use mt_watch::Asks;
 /// The plan of a way has, behind those of its places that stand done, the step that is next, for the shard that is; its last place is that
 /// of the last step; a refresh is at the place of its shard, in their order; and with one shard the places are the steps, in their order.
 pub fn a_plan_is_that_of_its_way()
-    ensures next { (way : Way) (place : Place) → slice_get (plan_of way) way.done ≡ Some place
+    ensures next { (way : Way) (place : PlannedStep) → slice_get (plan_of way) way.done ≡ Some place
         → (number place.step ≡ next_step way) × (place.shard ≡ shard_at_place way (next_place way)) }
     ensures last { (way : Way) → first_step way + length (plan_of way) ≡ suc (last_place_of way (behind_last way - 1)) }
     ensures refreshes { (way : Way) (shard : ℕ) → shard < way.shards
-        → place_at way (place_of_refresh way (repeated_step way) shard) ≡ record { step = step_at (repeated_step way); shard = shard } }
+        → planned_at way (place_of_refresh way (repeated_step way) shard) ≡ record { step = step_at (repeated_step way); shard = shard } }
     ensures one { (way : Way) → way.shards ≤ 1 → map (λ place. place.step) (plan_of way) ≡ steps_of (changed_types way) }
 {}
 

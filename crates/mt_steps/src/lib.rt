@@ -19,7 +19,7 @@ pub use laws::{
     an_undo_gives_back_lists_and_streams, an_undo_gives_back_what_stood,
 };
 pub use log::{OpenWay, UndoLog};
-pub use plan::{MAX_PLACES, Place, Plan};
+pub use plan::{MAX_PLACES, Plan, PlannedStep};
 pub use sides::{Sides, do_step, undo_last};
 pub use step::Step;
 pub use streams::{last_step, next_step};

@@ -2,6 +2,7 @@
 ghost use Rattle.std.specs.Prelude.{◌≡◌, ◌<◌, IfOk, IfErr, None, length, replicate};
 ghost use Rattle.mt_model.specs.Part.{with_entries};
 ghost use Rattle.mt_steps.specs.Entries.{HasPlaces, recorded, recorded_of, step_entries};
+ghost use Rattle.mt_steps.specs.Plans.{number};
 ghost use Rattle.mt_steps.specs.Steps.{given_listed, left_listed, listed_at};
 ghost use Rattle.mt_steps.specs.Undo.{IsLogOf, new_log};
 
@@ -100,12 +101,12 @@ impl UndoLog {
         topology: &mut Topology,
         workflow: &Workflow,
         types: TypeSet,
-        step: u8,
+        step: Step,
     )
         requires places { HasPlaces topology.old workflow.now }
         requires log { IsLogOf workflow.now self.old }
-        ensures recorded { self.new ≡ record self.old { entries = recorded workflow.now step topology.old self.old.entries } }
-        ensures written { topology.new ≡ with_entries topology.old (step_entries workflow.now types step) }
+        ensures recorded { self.new ≡ record self.old { entries = recorded workflow.now (number step) topology.old self.old.entries } }
+        ensures written { topology.new ≡ with_entries topology.old (step_entries workflow.now types (number step)) }
     {
         workflow.facts();
         part_keys_are_distinct();
@@ -113,10 +114,10 @@ impl UndoLog {
     }
 
     /// Writes back what is recorded of each entry of a workflow's part that changes with a step. It takes no memory.
-    pub(crate) fn write_back(&self, topology: &mut Topology, workflow: &Workflow, step: u8)
+    pub(crate) fn write_back(&self, topology: &mut Topology, workflow: &Workflow, step: Step)
         requires places { HasPlaces topology.old workflow.now }
         requires log { IsLogOf workflow.now self.now }
-        ensures { topology.new ≡ with_entries topology.old (recorded_of workflow.now step self.now.entries) }
+        ensures { topology.new ≡ with_entries topology.old (recorded_of workflow.now (number step) self.now.entries) }
     {
         write_back(
             topology,

@@ -154,7 +154,7 @@ fn finish_step(
     ensures workflow { workflow.new ≡ workflow_stepped workflow.old (way_from way) step ends.now }
     ensures recorded { log.new ≡ record { entries = recorded workflow.old (number step) topology.old log.old.entries; listed = log.old.listed; slots = put_away workflow.old (way_from way) step log.old.slots } }
 {
-    log.exchange(topology, workflow, way.after, step.number());
+    log.exchange(topology, workflow, way.after, step);
     workflow.facts();
     step_streams(workflow, way, step, ends, &mut log.late.lanes);
     count_step(workflow, way, step);
@@ -243,7 +243,7 @@ fn finish_undo(
     ensures workflow { workflow.new ≡ workflow_undone workflow.old (way_from way) step log.old.slots }
     ensures left { log.new ≡ record log.old { slots = left_slots step log.old.slots } }
 {
-    log.write_back(topology, workflow, step.number());
+    log.write_back(topology, workflow, step);
     undo_streams(workflow, way, step, &mut log.late.lanes);
     count_undo(workflow, way);
 }

@@ -88,10 +88,10 @@ impl Step {
     }
 
     /// The step of a number.
-    pub(crate) fn of_number(number: u8) -> Self
+    pub(crate) fn of_number(number: u16) -> Self
         requires { number < 12 }
         ensures { result ≡ step_at number }
     {
-        ALL[number as usize]
+        ALL[usize::from(number)]
     }
 }

@@ -217,7 +217,7 @@ pub fn last_step(way: Way) -> Step
     requires before { last_step (way_from way) < write_journal }
     ensures { result ≡ step_at (last_step (way_from way)) }
 {
-    Step::of_number(way.step_at_place(way.next_place() - 1) as u8)
+    Step::of_number(way.step_at_place(way.next_place() - 1))
 }
 
 /// The shard that the place is for which was done last.
@@ -233,7 +233,7 @@ pub fn next_step(way: Way) -> Step
     ensures step { result ≡ step_at (next_step (way_from way)) }
     ensures number { number result ≡ next_step (way_from way) }
 {
-    Step::of_number(way.next_step() as u8)
+    Step::of_number(way.next_step())
 }
 
 /// Whether a step is the last one of its way.

@@ -1,6 +1,6 @@
 //! The plans of ways, and how refusals of steps are printed.
 use mt_names::TypeSet;
-use mt_steps::{MAX_PLACES, Place, Plan, Step, StepFault};
+use mt_steps::{MAX_PLACES, Plan, PlannedStep, Step, StepFault};
 use std::test::Fail;
 
 /// The types that a way changes.
@@ -32,12 +32,12 @@ fn a_plan_of_writes_or_of_reads_alone(rt: HostRuntime) -> Result<(), Fail> {
 }
 
 /// A place of a plan.
-fn place(step: Step, shard: u8) -> Place {
-    Place { step, shard }
+fn place(step: Step, shard: u8) -> PlannedStep {
+    PlannedStep { step, shard }
 }
 
 /// The number of the step at a place of a plan, and the shard that it is for.
-fn told(plan: &[Place], at: usize) -> Option<(u8, u8)> {
+fn told(plan: &[PlannedStep], at: usize) -> Option<(u8, u8)> {
     match plan.get(at) {
         Some(place) => Some((place.step.number(), place.shard)),
         None => None,

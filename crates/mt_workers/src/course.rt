@@ -104,10 +104,8 @@ pub(crate) fn course_of(tries: u64, none: Refusal, answer: Answer) -> Result<Cou
     ensures course { result ≡ course_of tries none answer }
     ensures few { IfOk result (λ course. (course.way.done ≤ most_places) × (course.way.shards ≤ most_shards)) }
 {
-    let shown = match answer {
-        Ok(Reply::Shown(shown)) => shown,
-        Ok(_) => return Err(none),
-        Err(refusal) => return Err(refusal),
+    let Reply::Shown(shown) = answer? else {
+        return Err(none);
     };
     match shown.way {
         Some(way) => Ok(course_on(tries, &shown, way)),

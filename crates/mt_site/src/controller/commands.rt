@@ -103,13 +103,9 @@ impl Core {
         what_is_purged_stays_purged();
         a_move_can_be_given_up(watchers);
         every_run_keeps_the_headline();
-        match self.do_command(watchers, command) {
-            Ok(()) => {
-                self.purge();
-                Ok(())
-            }
-            Err(reason) => Err(reason),
-        }
+        self.do_command(watchers, command)?;
+        self.purge();
+        Ok(())
     }
 
     /// Does what a command asks for, and leaves the logs.

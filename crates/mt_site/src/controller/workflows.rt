@@ -56,13 +56,9 @@ impl Core {
         a_purged_core_stands();
         what_is_purged_stays_purged();
         every_run_keeps_the_headline();
-        match self.do_create(watchers, workflow, source, target, tables) {
-            Ok(()) => {
-                self.purge();
-                Ok(())
-            }
-            Err(refusal) => Err(refusal),
-        }
+        self.do_create(watchers, workflow, source, target, tables)?;
+        self.purge();
+        Ok(())
     }
 
     /// Does what a Create asks for, and leaves the logs.
@@ -129,13 +125,9 @@ impl Core {
             at,
             max,
         };
-        match self.do_advance(workflow, asked) {
-            Ok(counts) => {
-                self.purge();
-                Ok(counts)
-            }
-            Err(reason) => Err(reason),
-        }
+        let counts = self.do_advance(workflow, asked)?;
+        self.purge();
+        Ok(counts)
     }
 
     /// Does what an advance asks for, and leaves the logs.

@@ -5,7 +5,8 @@ use Rattle.mt_plain.specs.Next.{next, types_and, types_without, with_way_to}
 use Rattle.mt_plain.specs.Refuse.{begin_reverse_refusal, begin_switch_refusal}
 use Rattle.mt_plain.specs.Plain.{live_at}
 use Rattle.mt_plain.specs.Serve.{refuses_by}
-use Rattle.mt_stands.proofs.BeginLemmas.{at_rest-none, in_workflow-none}
+use Rattle.mt_stands.proofs.BeginLemmas.{at_rest-none}
+use Rattle.mt_laws.proofs.RefusalLemmas.{in_workflow-none}
 use Rattle.mt_stands.proofs.KeepLemmas.{begun_sides}
 use Rattle.mt_primary.specs.Primaries.{primary_of}
 use Rattle.mt_refinement.proofs.WaysListLemmas.{IsNext, same_stand}

@@ -1,5 +1,5 @@
 -- The primaries are added first; where the topology has no memory, they are as they were.
-use Rattle.std.proofs.Common.{◌≡◌, ap, false, refl, sym, take, length, ◌-◌, ◌∙◌}
+use Rattle.std.proofs.Common.{◌≡◌, ap, refl, sym, take, length, ◌-◌, ◌∙◌}
 use Rattle.std.specs.Option.{option_map}
 use Rattle.mt_model.specs.Topology.{TopologyState, with_keyspace}
 use Rattle.mt_topology.specs.Edits.{add_keyspace_refusal}
@@ -57,7 +57,7 @@ returns-in-Err c = λ (workflows : Workflows).
     let by_topology : TopologyState → BaseState = λ u. record { topology = u; primaries = c.pop.new.self; workflows = workflows } in
     let by_primaries : Primaries → BaseState = λ l. record { topology = t; primaries = l; workflows = workflows } in
     let done : BaseState = record { topology = with_keyspace t name c.args.shards.now; primaries = primaries.with_keyspace ps name c.args.shards.now; workflows = workflows } in
-    rw c.refusal_by_topology.ensures (keyspace-refused t c.add_keyspace.new.self refusal wanted c.in-Err.fault c.in-Err.ensures (by_primaries ps) (by_topology c.add_keyspace.new.self) done (ap by_topology left ∙ ap by_primaries back))
+    rw c.from.ensures (keyspace-refused t c.add_keyspace.new.self refusal wanted c.in-Err.fault c.in-Err.ensures (by_primaries ps) (by_topology c.add_keyspace.new.self) done (ap by_topology left ∙ ap by_primaries back))
 
 pub returns : goal.returns
 returns c = λ (workflows : Workflows).

@@ -12,21 +12,21 @@ use Rattle.mt_site.proofs.PrimaryLemmas.{not_created}
 use Rattle.mt_site.proofs.by_hand.add_table.Goals as goal
 
 pub create_table_at-requires-clause-there : goal.create_table_at-requires-clause-there
-create_table_at-requires-clause-there c = has-primary c.args.topology.now c.args.primaries.now c.args.keyspace.now c.args.table.now c.requires c.in_default.ensures.0
+create_table_at-requires-clause-there c = has-primary c.args.topology.now c.args.primaries.now c.args.keyspace.now c.args.table.now c.requires c.in_ok-add_table.ensures.0
 
 pub create_table_at-requires-clause-absent : goal.create_table_at-requires-clause-absent
 create_table_at-requires-clause-absent c = λ shard within.
-    c.requires.tables c.args.keyspace.now shard within c.args.table.now ∙ (table-free c.args.topology.now.keyspaces c.args.keyspace.now c.args.table.now c.in_default.ensures.0).1
+    c.requires.tables c.args.keyspace.now shard within c.args.table.now ∙ (table-free c.args.topology.now.keyspaces c.args.keyspace.now c.args.table.now c.in_ok-add_table.ensures.0).1
 
 pub take_table-requires : goal.take_table-requires
 take_table-requires c =
-    let made = c.in_default.ensures in
+    let made = c.in_ok-add_table.ensures in
     subst (λ t. has_place t (about.Present c.args.keyspace.now c.args.table.now) ≡ true) (sym made.1)
     (table_has_place c.args.topology.now c.args.primaries.now c.args.keyspace.now c.args.table.now c.requires made.0)
 
 pub returns-then-is_err : goal.returns-then-is_err
 returns-then-is_err c = λ (workflows : Workflows).
-    let made = c.in_default.ensures in
+    let made = c.in_ok-add_table.ensures in
     let back : c.take_table.new.topology ≡ c.args.topology.now =
     c.take_table.ensures ∙ ap (λ t. without_table t c.args.keyspace.now c.args.table.now) made.1
     ∙ taken_back c.args.topology.now c.args.primaries.now c.args.keyspace.now c.args.table.now c.requires made.0 in

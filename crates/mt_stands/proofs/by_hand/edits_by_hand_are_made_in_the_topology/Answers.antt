@@ -6,7 +6,7 @@ use Rattle.mt_plain.specs.Events.{add_keyspace, add_table, done, edit_rule, exis
 use Rattle.mt_plain.specs.Next.{next}
 use Rattle.mt_plain.specs.Plain.{has_keyspace, part_owner}
 use Rattle.mt_plain.specs.Refuse.{refuse_if}
-use Rattle.mt_stands.proofs.BeginLemmas.{or_else-none, refuse_if-none}
+use Rattle.mt_laws.proofs.RefusalLemmas.{or_else-none, refuse_if-none}
 use Rattle.mt_stands.proofs.HandLemmas.{keyspace_stands, rule_stands, table_stands}
 use Rattle.mt_stands.proofs.by_hand.edits_by_hand_are_made_in_the_topology.Goals as goal
 

@@ -15,7 +15,7 @@ use Rattle.mt_plain.specs.Serve.{served_by}
 use Rattle.mt_stands.specs.Keys.{created_live, keys_of_part}
 use Rattle.mt_stands.specs.Topologies.{TopologyStands}
 use Rattle.mt_stands.proofs.BackLemmas.{places_back}
-use Rattle.mt_stands.proofs.BeginLemmas.{or_else-none, refuse_if-none}
+use Rattle.mt_laws.proofs.RefusalLemmas.{or_else-none, refuse_if-none}
 use Rattle.mt_stands.proofs.CancelLemmas.{held_by}
 use Rattle.mt_stands.proofs.CreateLemmas.{free, live_next}
 use Rattle.mt_workflow.proofs.MemberLemmas.{all_counted}

@@ -9,7 +9,7 @@ use Rattle.mt_plain.specs.Plain.{Live, Plain, each_once, live_at}
 use Rattle.mt_plain.specs.Refuse.{refuse_if}
 use Rattle.mt_stands.specs.Keys.{IsKept, created_live, kept_of, keys_of_part, part_entries}
 use Rattle.mt_stands.specs.Topologies.{TopologyStands}
-use Rattle.mt_stands.proofs.BeginLemmas.{or_else-none, refuse_if-none}
+use Rattle.mt_laws.proofs.RefusalLemmas.{or_else-none, refuse_if-none}
 use Rattle.mt_stands.proofs.CreateLemmas.{create_stands, is_kept, live_next}
 use Rattle.mt_stands.proofs.creating.create_writes_the_part.Goals as goal
 

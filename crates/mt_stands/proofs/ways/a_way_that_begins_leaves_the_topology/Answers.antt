@@ -3,7 +3,8 @@ use Rattle.mt_plain.specs.Events.{begin_reverse, begin_switch, done}
 use Rattle.mt_plain.specs.Next.{next, types_and, types_without, with_way_to}
 use Rattle.mt_plain.specs.Plain.{live_at}
 use Rattle.mt_plain.specs.Refuse.{begin_reverse_refusal, begin_switch_refusal}
-use Rattle.mt_stands.proofs.BeginLemmas.{at_rest-none, begun_entry, in_workflow-none}
+use Rattle.mt_stands.proofs.BeginLemmas.{at_rest-none, begun_entry}
+use Rattle.mt_laws.proofs.RefusalLemmas.{in_workflow-none}
 use Rattle.mt_stands.proofs.StandLemmas.{Laws, stays}
 use Rattle.mt_stands.proofs.ways.a_way_that_begins_leaves_the_topology.Goals as goal
 

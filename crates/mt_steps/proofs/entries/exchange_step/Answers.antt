@@ -5,6 +5,7 @@ use Rattle.mt_model.specs.Topology.{key_of}
 use Rattle.mt_steps.specs.declared.records.TableRecord.{TableRecord}
 use Rattle.mt_steps.specs.Records.{entries_of, table_entries}
 use Rattle.mt_steps.specs.Entries.{swept}
+use Rattle.mt_steps.specs.Plans.{number}
 use Rattle.mt_steps.proofs.EntryLemmas.{none_swept, none_written}
 use Rattle.mt_steps.proofs.SweepLemmas.{AreSwept, all_swept, all_written, none_yet, over, places_next, same_next, sweep_next, written_more}
 use Rattle.mt_steps.proofs.entries.exchange_step.Goals as goal
@@ -12,15 +13,15 @@ use Rattle.mt_steps.proofs.entries.exchange_step.Goals as goal
 pub returns-then-not-writes_entries-clause-recorded : goal.returns-then-not-writes_entries-clause-recorded
 returns-then-not-writes_entries-clause-recorded c =
     let isnt : c.writes_entries.result ≡ false = search (c.if-not-writes_entries.true) in
-    none_swept c.args.workflow.now c.args.step (c.writes_entries.ensures isnt c.args.workflow.now) c.args.types c.args.topology.now (entries_of c.args.workflow.now.source c.args.workflow.now.target c.args.records.now)
+    none_swept c.args.workflow.now (number c.args.step) (c.writes_entries.ensures isnt c.args.workflow.now) c.args.types c.args.topology.now (entries_of c.args.workflow.now.source c.args.workflow.now.target c.args.records.now)
 
 pub returns-then-not-writes_entries-clause-written : goal.returns-then-not-writes_entries-clause-written
 returns-then-not-writes_entries-clause-written c =
     let isnt : c.writes_entries.result ≡ false = search (c.if-not-writes_entries.true) in
-    none_written c.args.workflow.now c.args.step (c.writes_entries.ensures isnt c.args.workflow.now) c.args.types c.args.topology.now (map key_of (entries_of c.args.workflow.now.source c.args.workflow.now.target c.args.records.now))
+    none_written c.args.workflow.now (number c.args.step) (c.writes_entries.ensures isnt c.args.workflow.now) c.args.types c.args.topology.now (map key_of (entries_of c.args.workflow.now.source c.args.workflow.now.target c.args.records.now))
 
 pub loop-noted-init : goal.loop-noted-init
-loop-noted-init c = record { swept = none_yet c.args.workflow.now.source c.args.workflow.now.target c.args.workflow.now c.args.types c.args.step c.args.topology.now c.args.records.now; written = refl }
+loop-noted-init c = record { swept = none_yet c.args.workflow.now.source c.args.workflow.now.target c.args.workflow.now c.args.types (number c.args.step) c.args.topology.now c.args.records.now; written = refl }
 
 pub exchange_table-requires : goal.exchange_table-requires
 exchange_table-requires c =
@@ -33,8 +34,8 @@ exchange_table-requires c =
     record {
       apart = c.requires.apart;
       places =
-          places_next s g w c.args.types c.args.step c.args.topology.now c.loop-noted.topology c.args.records.now i (get_or c.loop-noted.records i d) d within
-          (same_next s g w c.args.types c.args.step c.args.topology.now i c.args.records.now c.loop-noted.records d c.loop-noted.invariant.swept)
+          places_next s g w c.args.types (number c.args.step) c.args.topology.now c.loop-noted.topology c.args.records.now i (get_or c.loop-noted.records i d) d within
+          (same_next s g w c.args.types (number c.args.step) c.args.topology.now i c.args.records.now c.loop-noted.records d c.loop-noted.invariant.swept)
           c.loop-noted.invariant.written c.requires.places;
     }
 
@@ -44,7 +45,7 @@ loop-noted-preserved c =
     let g = c.args.workflow.now.target in
     let w = c.args.workflow.now in
     let types = c.args.types in
-    let n = c.args.step in
+    let n = number c.args.step in
     let t = c.args.topology.now in
     let u = c.loop-noted.topology in
     let old = c.args.records.now in
@@ -64,12 +65,12 @@ loop-noted-preserved c =
 
 pub returns-clause-recorded : goal.returns-clause-recorded
 returns-clause-recorded c =
-    all_swept c.args.workflow.now.source c.args.workflow.now.target c.args.workflow.now c.args.types c.args.step c.args.topology.now c.loop-noted.noted-index c.args.records.now c.loop-noted.records
+    all_swept c.args.workflow.now.source c.args.workflow.now.target c.args.workflow.now c.args.types (number c.args.step) c.args.topology.now c.loop-noted.noted-index c.args.records.now c.loop-noted.records
     (omega (arith, c.loop-noted-test.false, c.loop-noted.auto.records)) c.loop-noted.invariant.swept
 
 pub returns-clause-written : goal.returns-clause-written
 returns-clause-written c =
     c.loop-noted.invariant.written
-    ∙ ap (fold (λ u r. over c.args.workflow.now c.args.types c.args.step u (table_entries c.args.workflow.now.source c.args.workflow.now.target r)) c.args.topology.now)
+    ∙ ap (fold (λ u r. over c.args.workflow.now c.args.types (number c.args.step) u (table_entries c.args.workflow.now.source c.args.workflow.now.target r)) c.args.topology.now)
     (take_all c.loop-noted.noted-index c.args.records.now (omega (arith, c.loop-noted-test.false, c.loop-noted.auto.records)))
-    ∙ all_written c.args.workflow.now.source c.args.workflow.now.target c.args.workflow.now c.args.types c.args.step c.args.topology.now c.args.records.now
+    ∙ all_written c.args.workflow.now.source c.args.workflow.now.target c.args.workflow.now c.args.types (number c.args.step) c.args.topology.now c.args.records.now

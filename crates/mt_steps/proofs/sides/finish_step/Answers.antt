@@ -2,12 +2,11 @@
 use Rattle.std.proofs.Common.{◌≡◌, ◌≤◌, map, ap, rules, subst, sym, ◌∙◌}
 use Rattle.std.proofs.lemmas.List.{with_items_is}
 use Rattle.mt_names.specs.declared.types.TypeSet.{TypeSet}
-use Rattle.mt_model.specs.Part.{with_entries}
 use Rattle.mt_workflow.specs.Workflows.{WorkflowState, way_from}
 use Rattle.mt_workflow.proofs.LaneLemmas.{few_lanes}
 use Rattle.mt_steps.specs.declared.log.Late.{Late}
 use Rattle.mt_steps.specs.declared.log.PutAway.{PutAway}
-use Rattle.mt_steps.specs.Entries.{recorded, step_entries}
+use Rattle.mt_steps.specs.Entries.{step_entries}
 use Rattle.mt_steps.specs.Plans.{number}
 use Rattle.mt_steps.specs.Streams.{put_away, types_after, way_after, with_streams}
 use Rattle.mt_steps.specs.Undo.{UndoState}
@@ -19,8 +18,7 @@ pub count_step-requires-clause-few : goal.count_step-requires-clause-few
 count_step-requires-clause-few c = subst (λ n. n ≤ 8) (sym c.requires.shards) (few_lanes c.args.workflow.now.lanes c.facts.ensures.covers c.facts.ensures.cuts)
 
 pub returns-clause-topology : goal.returns-clause-topology
-returns-clause-topology c =
-    c.exchange.ensures.written ∙ ap (λ n. with_entries c.args.topology.now (step_entries c.args.workflow.now (way_from c.args.way).after n)) c.number.ensures.value
+returns-clause-topology c = c.exchange.ensures.written
 
 pub returns-clause-workflow : goal.returns-clause-workflow
 returns-clause-workflow c =
@@ -34,7 +32,6 @@ returns-clause-workflow c =
 pub returns-clause-recorded : goal.returns-clause-recorded
 returns-clause-recorded c =
     let w = c.args.workflow.now in
-    let log = c.args.log.now in
     let late = c.deref_mut.result.now in
     let records = c.log.inside.records.items in
     let away = put_away w (way_from c.args.way) c.args.step in
@@ -46,7 +43,6 @@ returns-clause-recorded c =
     (c.step_streams.ensures.slots ∙ ap (λ kept. away (map (λ (k : PutAway). k.slot) kept)) items)
     (c.step_streams.ensures.listed ∙ ap (λ kept. map (λ (k : PutAway). k.listed) kept) items)
     ∙ ap (λ (l : Late). behind (seen l.source l.target records l.lanes.items)) lent ∙ ap behind (c.log.view_is ∙ c.exchange.ensures.recorded)
-    ∙ ap (λ n. record { entries = recorded w n c.args.topology.now log.entries; listed = log.listed; slots = away log.slots }) c.number.ensures.value
 
 pub returns-clause-log : goal.returns-clause-log
 returns-clause-log c =

@@ -1,7 +1,6 @@
 -- What the calls did, one after the other.
 use Rattle.std.proofs.Common.{◌≡◌, [], map, ap, rules, ◌∙◌}
 use Rattle.std.proofs.lemmas.List.{with_items_is}
-use Rattle.mt_model.specs.Part.{with_entries}
 use Rattle.mt_workflow.specs.Workflows.{way_from}
 use Rattle.mt_steps.specs.declared.log.Late.{Late}
 use Rattle.mt_steps.specs.declared.log.PutAway.{PutAway}
@@ -14,7 +13,7 @@ use Rattle.mt_steps.proofs.StepLemmas.{undone_log, undone_places}
 use Rattle.mt_steps.proofs.sides.finish_undo.Goals as goal
 
 pub returns-clause-topology : goal.returns-clause-topology
-returns-clause-topology c = c.write_back.ensures ∙ ap (λ n. with_entries c.args.topology.now (recorded_of c.args.workflow.now n c.args.log.now.entries)) c.number.ensures.value
+returns-clause-topology c = c.write_back.ensures
 
 pub returns-clause-workflow : goal.returns-clause-workflow
 returns-clause-workflow c = search rules

@@ -1,5 +1,5 @@
 -- The row is read where the name leads.
-use Rattle.std.proofs.Common.{◌∙◌, Ok, ap, subst, sym}
+use Rattle.std.proofs.Common.{◌≡◌, ◌∙◌, Ok, Err, ap, rules, subst, sym}
 use Rattle.std.specs.Prelude.{⊤}
 use Rattle.mt_model.specs.Topology.{resolution}
 use Rattle.mt_plain.specs.Events.{read}
@@ -9,16 +9,18 @@ use Rattle.mt_stands.specs.Ways.{CoreSteps}
 use Rattle.mt_run.proofs.ThroughLemmas.{at_target, nowhere}
 use Rattle.mt_run.proofs.cached.CachedSite.read_through.Goals as goal
 
-pub returns-in-Ok : goal.returns-in-Ok
-returns-in-Ok g c = λ scopes p stands.
+pub returns : goal.returns
+returns g c = λ scopes p stands.
     let core = c.args.self.now.site.core in
     let target = c.place_of-place.result.target in
     at_target ⊤ (λ target told. CoreSteps scopes core (read target.keyspace target.table c.args.key c.args.tablet_type) (read_from told) core) (resolution (served p) c.args.name.now c.args.tablet_type) target
-    c.read_row.result (sym (c.in-Ok.ensures.served p scopes stands) ∙ ap Ok (sym c.place_of-place.ensures))
+    c.read_row.result (sym (c.in_ok-target.ensures.served p scopes stands) ∙ ap Ok (sym c.place_of-place.ensures))
     (subst (λ s. CoreSteps scopes s (read target.keyspace target.table c.args.key c.args.tablet_type) (read_from c.read_row.result) s) c.core-core.ensures (c.read_row.ensures.steps scopes))
 
-pub returns-in-Err : goal.returns-in-Err
-returns-in-Err g c = λ scopes p stands.
+pub returns-in_err-target : goal.returns-in_err-target
+returns-in_err-target g c = λ scopes p stands.
     let core = c.args.self.now.site.core in
-    nowhere ⊤ (λ target told. CoreSteps scopes core (read target.keyspace target.table c.args.key c.args.tablet_type) (read_from told) core) (resolution (served p) c.args.name.now c.args.tablet_type) c.in-Err.fault
-    (sym (c.in-Err.ensures.served p scopes stands)) tt
+    let f = c.in_err-target.field-0.0 in
+    let answered : c.from_residual.result ≡ Err f = search rules in
+    rw answered (nowhere ⊤ (λ target told. CoreSteps scopes core (read target.keyspace target.table c.args.key c.args.tablet_type) (read_from told) core) (resolution (served p) c.args.name.now c.args.tablet_type) f
+    (sym (c.in_err-target.ensures.served p scopes stands)) tt)

@@ -7,6 +7,7 @@ use Rattle.mt_steps.specs.declared.log.PutAway.{PutAway}
 use Rattle.mt_steps.specs.Entries.{HavePlaces, recorded, swept, with_wanted}
 use Rattle.mt_steps.specs.Records.{entries_of}
 use Rattle.mt_steps.specs.Undo.{UndoState}
+use Rattle.mt_steps.specs.Plans.{number}
 use Rattle.mt_steps.proofs.EntryLemmas.{writes_are_entries}
 use Rattle.mt_steps.proofs.SideLemmas.{same_entries, same_entries_swept}
 use Rattle.mt_steps.proofs.SweepLemmas.{have_places, swept_is_recorded}
@@ -31,7 +32,7 @@ pub returns-clause-recorded : goal.returns-clause-recorded
 returns-clause-recorded c =
     let w = c.args.workflow.now in
     let types = c.args.types in
-    let n = c.args.step in
+    let n = number c.args.step in
     let t = c.args.topology.now in
     let log = c.self.inside in
     let kept = log.late.value in
@@ -49,7 +50,7 @@ returns-clause-recorded c =
 pub returns-clause-written : goal.returns-clause-written
 returns-clause-written c =
     let w = c.args.workflow.now in
-    let n = c.args.step in
+    let n = number c.args.step in
     let t = c.args.topology.now in
     let log = c.self.inside in
     let kept = log.late.value in

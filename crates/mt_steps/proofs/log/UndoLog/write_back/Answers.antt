@@ -6,6 +6,7 @@ use Rattle.mt_steps.specs.declared.log.Late.{Late}
 use Rattle.mt_steps.specs.Entries.{HavePlaces, with_recorded}
 use Rattle.mt_steps.specs.Records.{entries_of}
 use Rattle.mt_steps.specs.Undo.{UndoState}
+use Rattle.mt_steps.specs.Plans.{number}
 use Rattle.mt_steps.proofs.EntryLemmas.{backs_are_entries}
 use Rattle.mt_steps.proofs.SweepLemmas.{have_places}
 use Rattle.mt_steps.proofs.log.UndoLog.write_back.Goals as goal
@@ -28,7 +29,7 @@ write_back-requires c =
 pub returns : goal.returns
 returns c =
     let w = c.args.workflow.now in
-    let n = c.args.step in
+    let n = number c.args.step in
     let t = c.args.topology.now in
     let log = c.self.inside in
     let kept = log.late.value in
