@@ -14,5 +14,7 @@ mod watching;
 
 pub use canon::{canon_dump, canon_rules};
 pub use command::{Status, perform};
+pub use mt_choice::{Choice, Wrong};
+pub use mt_script::ScriptFault;
 pub use script::run_script;
 pub use watching::run_watched;

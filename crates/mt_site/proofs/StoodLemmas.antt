@@ -11,7 +11,7 @@ use Rattle.mt_plain.specs.Events.{Answer, Event}
 use Rattle.mt_plain.specs.Next.{next}
 use Rattle.mt_stands.specs.Ways.{CoreState, CoreSteps}
 use Rattle.mt_site.specs.Runs.{Runs}
-use Rattle.mt_site.specs.Stood.{IsCoreWith}
+use Rattle.mt_site.specs.Stood.{IsCoreWith, StaysCore}
 
 pub stood_next : (scopes : List Scope) (old new : CoreState) (event : Event) (answer : Answer) → CoreSteps scopes old event answer new
     → IsCoreWith scopes old → IsCoreWith scopes new
@@ -22,3 +22,7 @@ pub stood_behind : (scopes : List Scope) (old new : CoreState) (events : List co
     → IsCoreWith scopes old → IsCoreWith scopes new
 stood_behind scopes old new events answers runs stood =
     ∥∥₁_map stood (λ (p, stands). (after p (map event_of events) (map answer_from answers), (runs p stands).1))
+
+-- a core that stays one, and then does so again
+pub stays_further : (scopes : List Scope) (old now new : CoreState) → StaysCore scopes old now → StaysCore scopes now new → StaysCore scopes old new
+stays_further scopes old now new before behind = (λ stood. behind.0 (before.0 stood), λ was. behind.1 (before.1 was))

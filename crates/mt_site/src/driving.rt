@@ -4,7 +4,9 @@ ghost use Rattle.mt_plain.specs.Drive.{begins};
 ghost use Rattle.mt_plain.specs.Drive as plain;
 ghost use Rattle.mt_plain.specs.Plain.{Plain};
 ghost use Rattle.mt_site.specs.Commands.{event_of_command};
+ghost use Rattle.mt_stands.specs.Purges.{IsPurged};
 ghost use Rattle.mt_site.specs.Drives.{DriveKeepsTheHeadline, DrivesFrom};
+ghost use Rattle.mt_site.specs.Stood.{IsCoreWith};
 
 use crate::turn::{Heard, MOST_TRIES, Turn, take};
 use crate::{Command, Site};
@@ -42,6 +44,8 @@ pub fn drive<W: Asks>(
     ensures drives { DrivesFrom (W.scopes site.old.watchers) site.old.core workflow.now types back result site.new.core }
     ensures headline { DriveKeepsTheHeadline (W.scopes site.old.watchers) site.old.core workflow.now types back result site.new.core }
     ensures unchanged { OnErr result (site.new.core ≡ site.old.core) }
+    ensures stood { IsCoreWith (W.scopes site.old.watchers) site.old.core → IsCoreWith (W.scopes site.new.watchers) site.new.core }
+    ensures purged { IsPurged site.old.core.base → IsPurged site.new.core.base }
 {
     every_run_keeps_the_headline();
     a_drive_fits_in_the_turns_that_are_left();

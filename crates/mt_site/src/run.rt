@@ -1,6 +1,7 @@
 //! Events, one after the other.
 ghost use Rattle.std.specs.Prelude.{◌≡◌, IfOk, OnErr, map};
 ghost use Rattle.mt_event.specs.Events.{answer_from, event_of};
+ghost use Rattle.mt_stands.specs.Purges.{IsPurged};
 ghost use Rattle.mt_site.specs.Headline.{KeepsTheHeadline};
 ghost use Rattle.mt_site.specs.Runs.{Runs};
 ghost use Rattle.mt_site.specs.Stood.{IsCoreWith};
@@ -30,6 +31,7 @@ pub fn run_events<W: Asks>(
     ensures headline { IfOk result (λ answers. KeepsTheHeadline (W.scopes site.old.watchers) site.old.core (map event_of events.now) (map answer_from answers.items) site.new.core) }
     ensures stopped { OnErr result (site.new.core ≡ site.old.core) }
     ensures stood { IsCoreWith (W.scopes site.old.watchers) site.old.core → IsCoreWith (W.scopes site.new.watchers) site.new.core }
+    ensures purged { IsPurged site.old.core.base → IsPurged site.new.core.base }
 {
     every_run_keeps_the_headline();
     let Ok(mut answers) = Vec::with_capacity(alloc, events.len()) else {

@@ -9,6 +9,7 @@ ghost use Rattle.mt_plain.specs.Plain.{Plain};
 ghost use Rattle.mt_stands.specs.Ways.{CoreStands};
 ghost use Rattle.mt_workflow.specs.Workflows.{slot_of, stream_name, way_from};
 ghost use Rattle.mt_site.specs.Drives.{Turns, end_from, heard_from, turn_from};
+ghost use Rattle.mt_site.specs.Stood.{StaysCore};
 
 use crate::{Command, Core};
 use mt_event::{Driven, Reason, Refusal};
@@ -151,7 +152,8 @@ fn refused_step(way: Option<Way>, tries: u8, refusal: Reason) -> Heard
 
 /// Tries the next step.
 fn step<W: Asks>(core: &mut Core, watchers: &W, workflow: &WorkflowName, tries: u8) -> Heard
-    ensures { Turns (W.scopes watchers.now) core.old (plain.steps workflow.now tries) (heard_from workflow.now result) core.new }
+    ensures turns { Turns (W.scopes watchers.now) core.old (plain.steps workflow.now tries) (heard_from workflow.now result) core.new }
+    ensures stays { StaysCore (W.scopes watchers.now) core.old core.new }
 {
     let at = steps_done(way_of(core, workflow));
     let answer = core.command(watchers, Command::Step(workflow, at));
@@ -186,7 +188,8 @@ fn fed(shards: u8, shard: u8, tries: u8) -> Turn
 
 /// Advances the feeding stream of a shard, before the step is tried again.
 fn feed(core: &mut Core, workflow: &WorkflowName, shard: u8, tries: u8) -> Heard
-    ensures { (scopes : List Scope) → Turns scopes core.old (plain.feeds workflow.now shard tries) (heard_from workflow.now result) core.new }
+    ensures turns { (scopes : List Scope) → Turns scopes core.old (plain.feeds workflow.now shard tries) (heard_from workflow.now result) core.new }
+    ensures stays { (scopes : List Scope) → StaysCore scopes core.old core.new }
 {
     let stream = feeding(way_of(core, workflow));
     let at = position_of(core, workflow, stream, shard);
@@ -203,7 +206,8 @@ fn give_up<W: Asks>(
     workflow: &WorkflowName,
     refusal: Reason,
 ) -> Heard
-    ensures { Turns (W.scopes watchers.now) core.old (plain.gives_up workflow.now (reason_from refusal)) (heard_from workflow.now result) core.new }
+    ensures turns { Turns (W.scopes watchers.now) core.old (plain.gives_up workflow.now (reason_from refusal)) (heard_from workflow.now result) core.new }
+    ensures stays { StaysCore (W.scopes watchers.now) core.old core.new }
 {
     let at = steps_done(way_of(core, workflow));
     let _ = core.command(watchers, Command::Undo(workflow, at));
@@ -221,7 +225,8 @@ pub(crate) fn take<W: Asks>(
     workflow: &WorkflowName,
     turn: Turn,
 ) -> Heard
-    ensures { Turns (W.scopes watchers.now) core.old (turn_from workflow.now turn) (heard_from workflow.now result) core.new }
+    ensures turns { Turns (W.scopes watchers.now) core.old (turn_from workflow.now turn) (heard_from workflow.now result) core.new }
+    ensures stays { StaysCore (W.scopes watchers.now) core.old core.new }
 {
     match turn {
         Turn::Steps(tries) => step(core, watchers, workflow, tries),

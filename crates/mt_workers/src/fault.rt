@@ -6,11 +6,13 @@ use std::fmt;
 use thiserror::Error;
 
 /// Why a controller ends that neither switched the traffic, nor gave the switch up, nor stopped behind the journal.
-#[derive(Debug, Drop, Eq, PartialEq)]
+#[derive(Debug, Drop, Eq, Error, PartialEq)]
 pub enum ControlFault {
     /// The begin was refused, or another event after whose refusal nothing can be done.
+    #[error("{0}")]
     Refused(Refusal),
     /// The desk refused a call.
+    #[error("{0}")]
     Desk(DeskFault),
 }
 

@@ -11,7 +11,9 @@ use Rattle.mt_event.specs.declared.driven.Driven.TheVariants as driven
 use Rattle.mt_event.specs.Drives.{driven_from}
 use Rattle.mt_site.specs.Commands.{event_of_command}
 use Rattle.mt_site.specs.Drives.{DrivesFrom, IsOnItsWay, Turns, turn_from}
+use Rattle.mt_site.specs.Stood.{IsCoreWith, StaysCore}
 use Rattle.mt_site.proofs.DriveLemmas.{drive_keeps}
+use Rattle.mt_site.proofs.StoodLemmas.{stays_further}
 use Rattle.mt_site.proofs.TurnLemmas.{ends_so, goes_further, never_out, refused_begin, starts, turn_taken}
 use Rattle.mt_site.proofs.driving.drive.Goals as goal
 
@@ -43,6 +45,7 @@ loop-init g c =
     let law = c.a_drive_fits_in_the_turns_that_are_left.ensures in
     record {
       watchers = c.command.ensures.watchers;
+      stays = (λ stood. subst (λ w. IsCoreWith (g.W.Asks.scopes w) new) c.command.ensures.watchers (c.command.ensures.stood stood), c.command.ensures.purged);
       way = goes_further scopes old old new start start (plain.steps c.args.workflow.now 64) 1399 law.goes_on
           (starts scopes old start (λ p. law.begins p c.args.workflow.now c.args.types c.args.back))
           (turn_taken scopes old new start (plain.goes_on (plain.steps c.args.workflow.now 64)) (event_of_command c.begin_of.result) (done_by c.command.result) c.command.ensures.steps
@@ -61,7 +64,7 @@ returns-in-Ends-clause-drives g c =
     let driving = turn_from name c.loop.turn in
     let turn : Turns scopes now driving (plain.ends (Ok (driven_from c.driven.result))) new
     = subst (λ w. Turns (g.W.Asks.scopes w) now driving (plain.ends (Ok (driven_from c.driven.result))) new) c.loop.invariant.watchers
-    (subst (λ d. Turns (g.W.Asks.scopes c.loop.site.watchers) now driving (plain.ends (Ok d)) new) (sym c.driven.ensures) c.in-Ends.ensures) in
+    (subst (λ d. Turns (g.W.Asks.scopes c.loop.site.watchers) now driving (plain.ends (Ok d)) new) (sym c.driven.ensures) c.in-Ends.ensures.turns) in
     let left : 1400 - c.loop.counter ≡ suc (1399 - c.loop.counter) = omega (arith, c.loop-test.true) in
     record {
       each = ends_so scopes old now new start driving c.driven.result (1399 - c.loop.counter)
@@ -84,10 +87,11 @@ loop-preserved g c =
     let driving = turn_from name c.loop.turn in
     let after = turn_from name c.in-GoesOn.next in
     let turn : Turns scopes now driving (plain.goes_on after) new
-    = subst (λ w. Turns (g.W.Asks.scopes w) now driving (plain.goes_on after) new) c.loop.invariant.watchers c.in-GoesOn.ensures in
+    = subst (λ w. Turns (g.W.Asks.scopes w) now driving (plain.goes_on after) new) c.loop.invariant.watchers c.in-GoesOn.ensures.turns in
     let left : 1400 - c.loop.counter ≡ suc (1400 - (c.loop.counter + 1)) = omega (arith, c.loop-test.true) in
     record {
       watchers = c.loop.invariant.watchers;
+      stays = stays_further scopes old now new c.loop.invariant.stays (subst (λ w. StaysCore (g.W.Asks.scopes w) now new) c.loop.invariant.watchers c.in-GoesOn.ensures.stays);
       way = goes_further scopes old now new start driving after (1400 - (c.loop.counter + 1)) c.a_drive_fits_in_the_turns_that_are_left.ensures.goes_on
           (subst (λ n. IsOnItsWay scopes old start n driving now) left c.loop.invariant.way) turn;
     }
@@ -110,3 +114,19 @@ pub returns-clause-headline : goal.returns-clause-headline
 returns-clause-headline g c =
     drive_keeps (g.W.Asks.scopes c.args.site.now.watchers) c.args.site.now.core c.loop.site.core c.args.workflow.now c.args.types c.args.back (Ok (driven.Stopped (refusal.Other reason.NotLevel) 0)) most_turns
     (returns-clause-drives g c).each c.every_run_keeps_the_headline.ensures.with_earlier_lines
+
+pub returns-in-Ends-clause-stood : goal.returns-in-Ends-clause-stood
+returns-in-Ends-clause-stood g c = λ stood.
+    let new = c.take.new.core in
+    subst (λ w. IsCoreWith (g.W.Asks.scopes w) new) (sym c.loop.invariant.watchers)
+    ((subst (λ w. StaysCore (g.W.Asks.scopes w) c.loop.site.core new) c.loop.invariant.watchers c.in-Ends.ensures.stays).0 (c.loop.invariant.stays.0 stood))
+
+pub returns-in-Ends-clause-purged : goal.returns-in-Ends-clause-purged
+returns-in-Ends-clause-purged g c = λ was. c.in-Ends.ensures.stays.1 (c.loop.invariant.stays.1 was)
+
+pub returns-clause-stood : goal.returns-clause-stood
+returns-clause-stood g c = λ stood.
+    subst (λ w. IsCoreWith (g.W.Asks.scopes w) c.loop.site.core) (sym c.loop.invariant.watchers) (c.loop.invariant.stays.0 stood)
+
+pub returns-clause-purged : goal.returns-clause-purged
+returns-clause-purged g c = c.loop.invariant.stays.1

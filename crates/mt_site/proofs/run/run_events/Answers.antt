@@ -25,6 +25,7 @@ loop-event-preserved g c =
       runs = subst (λ n. Runs scopes old (take n events) c.push_reserved.new.self.items new) (sym (add-one i))
           (subst (λ rs. Runs scopes old (take (suc i) events) rs new) (sym c.push_reserved.ensures.items)
           (runs_more scopes old c.loop-event.site.core new events c.loop-event.answers.items i c.event-item.result c.apply.result c.loop-event-test.true c.event-item.is c.loop-event.invariant.runs step));
+      purged = λ was. c.apply.ensures.purged (c.loop-event.invariant.purged was);
     }
 
 pub returns-clause-headline : goal.returns-clause-headline

@@ -9,8 +9,8 @@ use Rattle.mt_site.specs.Drives.{heard_from, turn_from}
 use Rattle.mt_site.proofs.TurnLemmas.{advance_due, goes_on_either, turn_taken}
 use Rattle.mt_site.proofs.turn.feed.Goals as goal
 
-pub returns-in-Ok : goal.returns-in-Ok
-returns-in-Ok c scopes =
+pub returns-in-Ok-clause-turns : goal.returns-in-Ok-clause-turns
+returns-in-Ok-clause-turns c scopes =
     let name = c.args.workflow.now in
     let shard = c.args.shard in
     let tries = c.args.tries in
@@ -24,8 +24,8 @@ returns-in-Ok c scopes =
     ∙ ap (λ n. plain.goes_on (if nat_lt (suc shard) n then plain.feeds name (suc shard) tries else plain.steps name tries)) (sym (c.shards_of.ensures q scopes stands))
     ∙ ap plain.goes_on (sym (c.fed.ensures name)))
 
-pub returns-in-Err : goal.returns-in-Err
-returns-in-Err c scopes =
+pub returns-in-Err-clause-turns : goal.returns-in-Err-clause-turns
+returns-in-Err-clause-turns c scopes =
     let name = c.args.workflow.now in
     let shard = c.args.shard in
     let tries = c.args.tries in

@@ -8,8 +8,8 @@ use Rattle.mt_site.specs.Drives.{heard_from}
 use Rattle.mt_site.proofs.TurnLemmas.{turn_taken, undone}
 use Rattle.mt_site.proofs.turn.give_up.Goals as goal
 
-pub returns : goal.returns
-returns g c =
+pub returns-clause-turns : goal.returns-clause-turns
+returns-clause-turns g c =
     let scopes = g.W.Asks.scopes c.args.watchers.now in
     let name = c.args.workflow.now in
     let why = reason_from c.args.refusal in

@@ -7,8 +7,8 @@ use Rattle.mt_site.specs.Drives.{heard_from}
 use Rattle.mt_site.proofs.TurnLemmas.{turn_taken}
 use Rattle.mt_site.proofs.turn.step.Goals as goal
 
-pub returns-in-Ok : goal.returns-in-Ok
-returns-in-Ok g c =
+pub returns-in-Ok-clause-turns : goal.returns-in-Ok-clause-turns
+returns-in-Ok-clause-turns g c =
     let scopes = g.W.Asks.scopes c.args.watchers.now in
     let name = c.args.workflow.now in
     turn_taken scopes c.args.core.now c.command-answer.new.self (plain.steps name c.args.tries) (heard_from name c.unless_closed.result)
@@ -16,8 +16,8 @@ returns-in-Ok g c =
     (λ p stands. ap (step name) (c.steps_done-at.ensures p name (c.way_of.ensures p scopes stands)))
     (λ q stands. ap (λ r. plain.heard q (plain.steps name c.args.tries) (done_by r)) c.in-Ok.is ∙ ap (λ w. plain.unless_closed w plain.done (plain.steps name plain.most_tries)) (sym (c.way_of-way.ensures q scopes stands)) ∙ sym (c.unless_closed.ensures name))
 
-pub returns-in-Err : goal.returns-in-Err
-returns-in-Err g c =
+pub returns-in-Err-clause-turns : goal.returns-in-Err-clause-turns
+returns-in-Err-clause-turns g c =
     let scopes = g.W.Asks.scopes c.args.watchers.now in
     let name = c.args.workflow.now in
     turn_taken scopes c.args.core.now c.command-answer.new.self (plain.steps name c.args.tries) (heard_from name c.refused_step.result)
