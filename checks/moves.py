@@ -106,7 +106,7 @@ def run(program, lines, keyspaces=KEYSPACES):
     with os.fdopen(os.memfd_create("script"), "w+") as script:
         script.write("".join(f"{line}\n" for line in lines))
         script.seek(0)
-        ended = subprocess.run([program, "run", *keyspaces], stdin=script, stdout=subprocess.PIPE, stderr=subprocess.STDOUT, text=True, close_fds=False, timeout=60)
+        ended = subprocess.run([program, "run", *keyspaces], stdin=script, stdout=subprocess.PIPE, stderr=subprocess.STDOUT, text=True, close_fds=False)
     return [*ended.stdout.splitlines(), *[f"status {ended.returncode}"] * bool(ended.returncode)]
 
 

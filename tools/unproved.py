@@ -42,6 +42,8 @@ OWNER = re.compile(r"^impl(?:<[^{]*>)? (?:[^{]*? for )?(\w+)")
 HINT = re.compile(r"^\s*#\[inline\((always|never)\)\]")
 FUNCTION = re.compile(r"^\s*(?:pub(?:\([^)]*\))? )?(?:const )?fn (\w+)")
 GENERICS = re.compile(r"::<[^:]*>$")
+# What is put before a command, so that the system tells it to stop if whoever started it is killed.
+ENDS_WITH_US = ("setpriv", "--pdeathsig", "TERM")
 TARGET = "x86_64-unknown-linux-gnu"
 NOT_PASSED_ON = ("-O", "-fsanitize", "-Werror", "--sysroot", "-o", "-c", "-x")
 
@@ -61,10 +63,10 @@ def kit():
 
 
 def called(words, room, **how):
-    """What a tool said, and its status. It keeps its files in the room; if this program is told to stop, so is the tool."""
+    """What a tool said, and its status. It keeps its files in the room; if this program is told to stop or is killed, the tool is told to stop."""
     how |= {"stdin": subprocess.DEVNULL, "stdout": subprocess.PIPE, "stderr": subprocess.STDOUT, "text": True, "errors": "replace"}
     # in a session of its own, so that it is told once: `rt` then ends what it started, and a second signal would keep it from that
-    tool = subprocess.Popen(words, env=dict(os.environ, TMPDIR=str(room)), start_new_session=True, **how)
+    tool = subprocess.Popen([*ENDS_WITH_US, *words], env=dict(os.environ, TMPDIR=str(room)), start_new_session=True, **how)
     try:
         said, _ = tool.communicate()
     except BaseException:
