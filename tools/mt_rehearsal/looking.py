@@ -9,12 +9,12 @@ from __future__ import annotations
 from collections.abc import Iterator, Mapping, Sequence
 from dataclasses import dataclass
 
-from mt_runs.program import ProgramFailed, is_refusal
+from mt_runs.program import ProgramFailed, is_refused
 from mt_runs.show import TYPES
 from mt_runs.topology import Topology
-from rehearsal.moved import Moved
-from rehearsal.report import SERVED, Query, Reached
-from rehearsal.session import Session
+from mt_rehearsal.moved import Moved
+from mt_rehearsal.report import SERVED, Query, Reached
+from mt_rehearsal.session import Session
 
 NO_PLACE = "rules"  # a line in the place of a read where the rules lead to none; its answer is passed over
 
@@ -35,10 +35,10 @@ class _Read:
         return f"get {self.name}{behind} {self.key}", f"at {self.place}{behind} get {self.key}" if self.place else NO_PLACE
 
     def reached(self, answer: str, at_place: str) -> Reached:
-        wanted = at_place if self.place else answer if is_refusal(answer) else "a refusal"
+        wanted = at_place if self.place else answer if is_refused(answer) else "a refusal"
         if answer != wanted:
             raise ProgramFailed(f"mt answers `{answer}` to a read by {self.name}@{self.tablet_type}, and `{wanted}` is that of {self.place or 'no place'}, to which its rules lead")
-        return Reached(self.place, answer.partition(" ")[2] if is_refusal(answer) else SERVED)
+        return Reached(self.place, answer.partition(" ")[2] if is_refused(answer) else SERVED)
 
 
 def queries(session: Session, move: Moved, topology: Topology, names: Mapping[str, Sequence[str]]) -> list[Query]:

@@ -7,8 +7,8 @@ import shlex
 from collections.abc import Iterator, Mapping
 from dataclasses import dataclass
 
-from rehearsal.cluster import PLAN
-from rehearsal.documents import CannotRehearse, read_text
+from mt_rehearsal.cluster import PLAN
+from mt_rehearsal.documents import CannotRehearse, read_text
 
 MOVE_TABLES = "MoveTables"
 CREATE, SWITCH, REVERSE, CANCEL, COMPLETE = "create", "switchtraffic", "reversetraffic", "cancel", "complete"

@@ -10,7 +10,7 @@ import re
 from collections.abc import Mapping
 from dataclasses import dataclass
 
-from rehearsal.documents import CannotRehearse, Value, read_document
+from mt_rehearsal.documents import CannotRehearse, Value, read_document
 
 OF_KEYSPACE = re.compile(r"([^.]+)\.(vschema|shards|schema)\.json")
 AFTER_RULES = re.compile(r"after-(\d+)\.routing_rules\.json")

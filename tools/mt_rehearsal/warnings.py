@@ -3,10 +3,10 @@ from __future__ import annotations
 
 from collections.abc import Iterator
 
-from rehearsal.beginning import Beginning
-from rehearsal.cluster import Keyspace
-from rehearsal.moved import Moved
-from rehearsal.report import Report
+from mt_rehearsal.beginning import Beginning
+from mt_rehearsal.cluster import Keyspace
+from mt_rehearsal.moved import Moved
+from mt_rehearsal.report import Report
 
 
 def warn_of_documents(beginning: Beginning, report: Report) -> None:

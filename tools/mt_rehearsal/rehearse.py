@@ -9,17 +9,17 @@ from mt_runs.program import Program
 from mt_runs.refusals import ScriptPage
 from mt_runs.show import Move, parse_show, stream_word
 from mt_runs.topology import Topology, parse_dump
-from rehearsal.beginning import Beginning
-from rehearsal.cluster import Cluster
-from rehearsal.commands import CANCEL, COMPLETE, CREATE, REVERSE, SHOWS, SWITCH, Command
-from rehearsal.documents import CannotRehearse
-from rehearsal.looking import queries, refusing_shards
-from rehearsal.moved import Moved
-from rehearsal.replay import Replay
-from rehearsal.report import DONE, PASSED_OVER, REFUSED, SHOWN, CommandReport, Conflict, Refused, Report, StepShown, Undo, Warned, WayBack
-from rehearsal.session import Session
-from rehearsal.states import States, denied_changes, denied_tables, dropped_tables, rule_changes
-from rehearsal.warnings import warn_of_documents, warn_of_rules
+from mt_rehearsal.beginning import Beginning
+from mt_rehearsal.cluster import Cluster
+from mt_rehearsal.commands import CANCEL, COMPLETE, CREATE, REVERSE, SHOWS, SWITCH, Command
+from mt_rehearsal.documents import CannotRehearse
+from mt_rehearsal.looking import queries, refusing_shards
+from mt_rehearsal.moved import Moved
+from mt_rehearsal.replay import Replay
+from mt_rehearsal.report import DONE, PASSED_OVER, REFUSED, SHOWN, CommandReport, Conflict, Refused, Report, StepShown, Undo, Warned, WayBack
+from mt_rehearsal.session import Session
+from mt_rehearsal.states import States, denied_changes, denied_tables, dropped_tables, rule_changes
+from mt_rehearsal.warnings import warn_of_documents, warn_of_rules
 
 MOST_TURNS = 1000  # of each stream, of 65,535 entries or rows each
 # Refusals of what a cluster may well do: they are limits of mt.

@@ -6,7 +6,7 @@ import re
 from collections.abc import Iterable, Iterator, Sequence
 
 from mt_runs.show import TYPES
-from rehearsal.report import (
+from mt_rehearsal.report import (
     REFUSED,
     ByShard,
     CommandReport,
@@ -29,13 +29,14 @@ STEP_HEADS = ("inside this command", "by name: writes", "replica", "rdonly", "pr
 
 def text_of(report: Report, with_rules: bool) -> Iterator[str]:
     """The lines of a report; with all routing rules behind each command if they are asked for."""
-    keyspaces = ", ".join(f"{name} ({', '.join(shards)})" for name, shards in report.shards.items())
-    yield f"Rehearsal of {len(report.commands)} commands, over {len(report.shards)} keyspaces: {keyspaces}"
-    for command in report.commands:
+    if report.commands:
+        keyspaces = ", ".join(f"{name} ({', '.join(shards)})" for name, shards in report.shards.items())
+        yield f"Rehearsal of {len(report.commands)} commands, over {len(report.shards)} keyspaces: {keyspaces}"
         yield ""
+    for command in report.commands:
         yield f"{command.number}. {command.text}"
         yield from _of_command(command, with_rules)
-    yield ""
+        yield ""
     if report.warnings:
         yield "Look at these before you begin"
         yield from (f"  - {it.text}" for it in report.warnings)

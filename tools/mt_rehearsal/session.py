@@ -3,7 +3,7 @@ from __future__ import annotations
 
 from collections.abc import Iterable, Sequence
 
-from mt_runs.program import Program, is_refusal
+from mt_runs.program import Program, is_refused
 from mt_runs.show import Move, parse_show
 from mt_runs.topology import Topology, parse_dump
 
@@ -25,7 +25,7 @@ class Session:
     def take(self, lines: Sequence[str]) -> list[str]:
         """The answers to lines that are added in turn. Of those that are refused and those that only read nothing is kept. Raises `ProgramFailed`."""
         answers = self.ask(lines)
-        self.lines += [line for line, answer in zip(lines, answers) if not is_refusal(answer) and not _is_read(line)]
+        self.lines += [line for line, answer in zip(lines, answers) if not is_refused(answer) and not _is_read(line)]
         return answers
 
     def ask(self, lines: Iterable[str]) -> list[str]:
@@ -40,4 +40,4 @@ class Session:
     def move(self, workflow: str) -> Move | None:
         """How a workflow stands; None if none of that name is live."""
         answer = self.ask([f"show {workflow}"])[0]
-        return None if is_refusal(answer) else parse_show(answer)
+        return None if is_refused(answer) else parse_show(answer)

@@ -4,8 +4,8 @@ from __future__ import annotations
 from collections.abc import Sequence
 
 from mt_runs.topology import Topology
-from rehearsal.moved import Moved
-from rehearsal.report import DeniedChange, RuleChange
+from mt_rehearsal.moved import Moved
+from mt_rehearsal.report import DeniedChange, RuleChange
 
 
 class States:

@@ -4,15 +4,15 @@ from __future__ import annotations
 from collections.abc import Iterator, Mapping, Sequence
 from dataclasses import dataclass
 
-from mt_runs.program import MOST_WATCHERS, is_refusal
+from mt_runs.program import MOST_WATCHERS, is_refused
 from mt_runs.refusals import ScriptPage
 from mt_runs.shards import first_key, is_range
-from rehearsal.cluster import Cluster, Keyspace
-from rehearsal.commands import CREATE, WORD, Command
-from rehearsal.documents import CannotRehearse
-from rehearsal.moved import Moved
-from rehearsal.report import Report
-from rehearsal.session import Session
+from mt_rehearsal.cluster import Cluster, Keyspace
+from mt_rehearsal.commands import CREATE, WORD, Command
+from mt_rehearsal.documents import CannotRehearse
+from mt_rehearsal.moved import Moved
+from mt_rehearsal.report import Report
+from mt_rehearsal.session import Session
 
 MOST_SHARDS, MOST_TABLES = 8, 256
 
@@ -52,7 +52,7 @@ class Beginning:
             self._refuse(line, "a name has something else than visible ASCII characters, of which mt's are made")
         lines = [it for it in lines if it.is_readable]
         for line, answer in zip(lines, session.take([it.text for it in lines])):
-            if is_refusal(answer):
+            if is_refused(answer):
                 refusal = page.refusal_of(answer)
                 self._refuse(line, f"`{line.text}` is answered `{answer}`{': ' + refusal.when if refusal else ''}")
 
