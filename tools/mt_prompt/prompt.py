@@ -78,7 +78,7 @@ class Prompt:
         if refusal.name == "X1 BadLine" and forms:
             yield f"    form:  {'  or  '.join(forms)}"
         elif refusal.name == "X1 BadLine":
-            yield f"    there is no line that begins with {word}: `help` lists them"
+            yield f"    there is no line that begins with {ascii(word)}: `help` lists them"
             return
         yield f"    when:  {refusal.when}"
         yield f"    do:    {refusal.what_to_do}"

@@ -15,6 +15,7 @@ from mt_rehearsal.report import (
     Reached,
     Report,
     RuleChange,
+    SameAs,
     StepShown,
     Undo,
     WayBack,
@@ -70,7 +71,7 @@ def _of_command(command: CommandReport, with_rules: bool) -> Iterator[str]:
     if command.outcome == REFUSED:
         yield from _labelled("REFUSED", _refused(command))
     if command.copied:
-        yield from _labelled("mt", [f"ok; then the streams copied {command.copied[0]} sample rows and read {command.copied[1]} entries"])
+        yield from _labelled("mt", [f"ok; then the streams copied {command.copied.rows} sample rows and read {command.copied.entries} entries"])
     yield from _steps(command)
     if command.outcome == "done":
         yield from _outcome(command)
@@ -96,8 +97,8 @@ def _outcome(command: CommandReport) -> Iterator[str]:
     yield from _labelled("routing rules", _rules(command.rules, command.tables))
     yield from _labelled("denied tables", _denied(command))
     yield from _labelled("tables dropped", [", ".join(command.dropped)] if command.dropped else [])
-    if command.as_before:
-        yield from _labelled("topology", [_as_before(*command.as_before)])
+    if command.same_as:
+        yield from _labelled("topology", [_same_as(command.same_as)])
     yield from _labelled("queries", _queries(command.queries))
     yield from _labelled("ways back", _ways_back(command))
 
@@ -235,10 +236,12 @@ def _undo(undo: Undo | None) -> str:
     return "undo: all as before (tried)" if undo.is_as_before else "undo: THE TOPOLOGY DIFFERS (tried)"
 
 
-def _as_before(number: int, is_whole: bool) -> str:
-    if is_whole:
-        return f"exactly as before command {number}"
-    return f"the move's part exactly as before command {number}, the rest as it is now"
+def _same_as(same: SameAs | None) -> str:
+    if same is None:
+        return "THE TOPOLOGY DIFFERS FROM ALL BEFORE"
+    if same.is_whole:
+        return f"exactly as before command {same.command}"
+    return f"the move's part exactly as before command {same.command}, the rest as it is now"
 
 
 def _ways_back(command: CommandReport) -> Iterator[str]:
@@ -250,7 +253,4 @@ def _ways_back(command: CommandReport) -> Iterator[str]:
 
 
 def _way_back(way: WayBack) -> str:
-    what = ", ".join(way.commands)
-    if way.answer != "ok":
-        return f"{what}: tried, {way.answer}"
-    return f"{what}: tried, {_as_before(way.as_before, way.is_whole) if way.as_before is not None else 'THE TOPOLOGY DIFFERS FROM ALL BEFORE'}"
+    return f"{', '.join(way.commands)}: tried, {_same_as(way.same_as) if way.answer == 'ok' else way.answer}"

@@ -2,21 +2,22 @@
 from __future__ import annotations
 
 import os
+import pathlib
 from collections.abc import Sequence
 
 from mt_runs.plan import DENY, PlannedStep, planned_steps
 from mt_runs.program import Program
-from mt_runs.refusals import ScriptPage
+from mt_runs.refusals import ScriptPage, read_script_page
 from mt_runs.show import Move, parse_show, stream_word
 from mt_runs.topology import Topology, parse_dump
 from mt_rehearsal.beginning import Beginning
-from mt_rehearsal.cluster import Cluster
-from mt_rehearsal.commands import CANCEL, COMPLETE, CREATE, REVERSE, SHOWS, SWITCH, Command
+from mt_rehearsal.cluster import read_cluster
+from mt_rehearsal.commands import CANCEL, COMPLETE, CREATE, REVERSE, SHOWS, SWITCH, Command, read_plan
 from mt_rehearsal.documents import CannotRehearse
 from mt_rehearsal.looking import queries, refusing_shards
 from mt_rehearsal.moved import Moved
-from mt_rehearsal.replay import Replay
-from mt_rehearsal.report import DONE, PASSED_OVER, REFUSED, SHOWN, CommandReport, Conflict, Refused, Report, StepShown, Undo, Warned, WayBack
+from mt_rehearsal.replay import Replay, known_departures
+from mt_rehearsal.report import DONE, PASSED_OVER, REFUSED, SHOWN, CommandReport, Conflict, Copied, Refused, Report, StepShown, Undo, Warned, WayBack
 from mt_rehearsal.session import Session
 from mt_rehearsal.states import States, denied_changes, denied_tables, dropped_tables, rule_changes
 from mt_rehearsal.warnings import warn_of_documents, warn_of_rules
@@ -26,11 +27,15 @@ MOST_TURNS = 1000  # of each stream, of 65,535 entries or rows each
 LIMITS = ("F33 ShardedSource", "F27 Full", "F24 NoWatcher", "F0 Memory", "F23 WatcherRefused", "N2 TooLong", "N3 BadByte", "N5 ReservedSuffix", "N7 TooMany")
 
 
-def rehearse(cluster: Cluster, plan: Sequence[Command], program: str | os.PathLike[str], page: ScriptPage, replay: Replay) -> Report:
-    """Rehearses a plan on a cluster; what can't be represented stands in the report's `cannot`. Raises `ProgramFailed`."""
-    report = Report()
-    report.warnings.extend(Warned("document", it) for it in cluster.notes)
+def rehearse_folder(folder: pathlib.Path, program: str | os.PathLike[str]) -> Report:
+    """Rehearses the plan of a folder on the cluster that its documents tell of; what can't be read or represented stands in the report's `cannot`.
+
+    Raises `ProgramFailed`, and `OSError` or `ValueError` if the pages that it quotes can't be read.
+    """
+    page, replay, report = read_script_page(), Replay(known_departures()), Report()
     try:
+        cluster, plan = read_cluster(folder), read_plan(folder)
+        report.warnings.extend(Warned("document", it) for it in cluster.notes)
         beginning = Beginning(cluster, plan, report)
         session = Session(Program(program, [it.name for it in beginning.keyspaces]))
         report.shards = {name: tuple(shards.values()) for name, shards in beginning.shards.items()}
@@ -67,7 +72,7 @@ class Rehearsal:
         if command.is_rehearsed:
             self._rehearsed(command, shown, before)
         after = self.session.topology()
-        shown.all_rules = after.rules
+        shown.all_rules, shown.script_lines = after.rules, len(self.session.lines)
         seen = self.beginning.cluster.seen.get(command.number)
         if seen:
             shown.departures = self.replay.departures(seen, after)
@@ -116,7 +121,7 @@ class Rehearsal:
         shown.dropped = dropped_tables(before, after)
         shown.has_ended = command.workflow not in self.live
         if shown.has_ended:
-            shown.as_before = self.states.as_before(after, move)
+            shown.same_as = self.states.same_as(after, move)
         shown.queries = queries(self.session, move, after, {table: move.names(table) for table in move.tables})
         shown.ways_back = self._ways_back(move, shown)
 
@@ -133,7 +138,7 @@ class Rehearsal:
         self.live[move.workflow] = move
         warn_of_rules(self.beginning, move, self.report)
         self._write(move)
-        shown.copied = self._level(move)
+        shown.copied = Copied(*self._level(move))
 
     def _find_conflicts(self, move: Moved, line: str, shown: CommandReport) -> None:
         """The rules that keep a move from being created, and what `create` is answered without them."""
@@ -252,12 +257,9 @@ class Rehearsal:
     def _way_back(self, move: Moved, commands: Sequence[tuple[str, str]]) -> WayBack:
         """Tries commands, each with the line that stands for it."""
         *answers, dump = self.session.ask([*(line for _, line in commands), "dump"])
-        names = tuple(name for name, _ in commands)
+        names, lines = tuple(name for name, _ in commands), tuple(line for _, line in commands)
         refusal = next((it for it in answers if it != "ok"), None)
-        if refusal:
-            return WayBack(names, refusal, None, False)
-        same = self.states.as_before(parse_dump(dump), move)
-        return WayBack(names, "ok", *(same or (None, False)))
+        return WayBack(names, lines, refusal or "ok", None if refusal else self.states.same_as(parse_dump(dump), move))
 
 
 def _turns(shown: Move) -> list[str]:

@@ -24,7 +24,7 @@ class Warned:
 class Refused:
     """A refusal, with the words of docs/SCRIPT.md on it."""
 
-    answer: str
+    name: str
     when: str
     what_to_do: str
 
@@ -82,6 +82,22 @@ class Query:
 
 
 @dataclass(frozen=True)
+class SameAs:
+    """That a topology is the one from before a command: all of it, or else the part that belongs to the move."""
+
+    command: int
+    is_whole: bool
+
+
+@dataclass(frozen=True)
+class Copied:
+    """How many rows the streams copied behind a `create`, and how many entries of the log they read."""
+
+    rows: int
+    entries: int
+
+
+@dataclass(frozen=True)
 class Undo:
     """An undo of all steps of a switch that is open: what `mt` answered, and whether the topology is that from before its begin. None where the way has ended."""
 
@@ -108,16 +124,15 @@ class StepShown:
 
 @dataclass(frozen=True)
 class WayBack:
-    """A way back, tried in a run of its own: the answer is `ok`, or the refusal that ended it.
+    """A way back, tried in a run of its own: its commands, the lines that stood for them, and `ok` or the refusal that ended it.
 
-    `as_before` is the number of the command before which the topology was as it is behind it, None if it was never; `is_whole` says whether all of it, or the
-    move's part.
+    `same_as` is None if it was refused, or if the topology behind it was never the one from before a command.
     """
 
     commands: tuple[str, ...]
+    lines: tuple[str, ...]
     answer: str
-    as_before: int | None
-    is_whole: bool
+    same_as: SameAs | None
 
 
 @dataclass(frozen=True)
@@ -148,20 +163,20 @@ class CommandReport:
     not_shown: list[str] = field(default_factory=list)
     answer: str | None = None
     refused: Refused | None = None
-    refused_at: str | None = None
     conflicts: list[Conflict] = field(default_factory=list)
     without_conflicts: str | None = None
-    copied: tuple[int, int] | None = None
+    copied: Copied | None = None
     steps: list[StepShown] = field(default_factory=list)
     rules: list[RuleChange] = field(default_factory=list)
     denied: list[DeniedChange] = field(default_factory=list)
     dropped: list[str] = field(default_factory=list)
     has_ended: bool = False
     queries: list[Query] = field(default_factory=list)
-    as_before: tuple[int, bool] | None = None
+    same_as: SameAs | None = None
     ways_back: list[WayBack] = field(default_factory=list)
     departures: list[Departure] | None = None
     all_rules: Mapping[str, str] = field(default_factory=dict)
+    script_lines: int = 0
 
 
 @dataclass
