@@ -87,17 +87,14 @@ class Prompt:
 
     def _help(self, word: str) -> Iterator[str]:
         """All lines; or more of those that begin with a word, or of a refusal."""
-        forms = {verb: them for verb, them in self.page.forms.items() if word in ("", verb)}
-        width = max((len(it.form) for them in forms.values() for it in them), default=0)
-        for it in (it for them in forms.values() for it in them):
-            yield f"  {it.form:{width}}  {it.meaning}"
-            yield from [f"  {'':{width}}  answered: {it.answer}"] if word else []
+        forms = [it for verb, them in self.page.forms.items() if word in ("", verb) for it in them]
         own = [it for verb, it in OWN_LINES.items() if word in ("", verb)]
-        yield from ["", "Of the prompt alone:"] if own and not word else []
-        yield from (f"  {form:{width}}  {meaning}" for form, meaning in own)
         refusals = [it for it in self.page.refusals.values() if word and word in (it.name, *it.name.split())]
-        for refusal in refusals:
-            yield from (f"  {refusal.name}", f"    when:  {refusal.when}", f"    do:    {refusal.what_to_do}")
+        width = max([len(it.form) for it in forms] + [len(form) for form, _ in own], default=0)
+        yield from (f"  {it.form:{width}}  {it.meaning}{f' (answered: {it.answer})' if word else ''}" for it in forms)
+        yield from [] if word else ["", "Of the prompt alone:"]
+        yield from (f"  {form:{width}}  {meaning}" for form, meaning in own)
+        yield from (f"  {it.name}\n    when:  {it.when}\n    do:    {it.what_to_do}" for it in refusals)
         if not forms and not own and not refusals:
             yield f"there is no line and no refusal {word}"
 

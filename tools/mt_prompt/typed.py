@@ -74,15 +74,19 @@ class TypedScript:
     def lag(self, move: Move) -> Iterator[tuple[str, int, int]]:
         """Of each stream that runs how many entries it has still to read, and how many rows then to copy: by turns in runs of their own."""
         for stream, position in running_streams(move):
-            turns: list[str] = []
-            entries = rows = 0
-            for _ in range(MOST_ROUNDS):
-                turns.append(f"advance {move.name} {stream} {position + entries} 65535")
-                read, copied = _done(self.ask(turns)[-1])
-                if not read + copied:
-                    break
-                entries, rows = entries + read, rows + copied
-            yield stream, entries, rows
+            yield (stream, *self._left_to_do(move.name, stream, position))
+
+    def _left_to_do(self, workflow: str, stream: str, position: int) -> tuple[int, int]:
+        """How many entries and rows a stream has still to bring."""
+        turns: list[str] = []
+        entries = rows = 0
+        for _ in range(MOST_ROUNDS):
+            turns.append(f"advance {workflow} {stream} {position + entries} 65535")
+            read, copied = _done(self.ask(turns)[-1])
+            if not read + copied:
+                break
+            entries, rows = entries + read, rows + copied
+        return entries, rows
 
 
 def running_streams(move: Move) -> list[tuple[str, int]]:

@@ -84,10 +84,12 @@ class Command:
 
     @property
     def workflow(self) -> str:
+        """The name of the workflow."""
         return self.flags["workflow"]
 
     @property
     def target(self) -> str:
+        """The target keyspace."""
         return self.flags["target-keyspace"]
 
     @property
@@ -113,10 +115,8 @@ class Command:
 
 def read_plan(folder: pathlib.Path) -> list[Command]:
     """The commands of plan.txt; raises `CannotRehearse`, with the line, where one can't be read or lacks a flag that it needs."""
-    commands: list[Command] = []
-    for number, line in _logical_lines(read_text(folder / PLAN)):
-        for words in _split(number, line):
-            commands.append(_command(len(commands) + 1, number, words))
+    found = [(line, words) for line, text in _logical_lines(read_text(folder / PLAN)) for words in _split(line, text)]
+    commands = [_command(number, line, words) for number, (line, words) in enumerate(found, 1)]
     if not commands:
         raise CannotRehearse(f"{PLAN}: has no command")
     targets = {it.workflow: it for it in reversed(commands) if it.is_rehearsed and it.action == CREATE}

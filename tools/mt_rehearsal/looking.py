@@ -31,13 +31,16 @@ class _Read:
     place: str | None
 
     def lines(self) -> tuple[str, str]:
+        """The two lines that ask."""
         behind = f"@{self.tablet_type}"
         return f"get {self.name}{behind} {self.key}", f"at {self.place}{behind} get {self.key}" if self.place else NO_PLACE
 
     def reached(self, answer: str, at_place: str) -> Reached:
+        """What the read met, by the answers to the two; raises `ProgramFailed` if they disagree."""
         wanted = at_place if self.place else answer if is_refused(answer) else "a refusal"
         if answer != wanted:
-            raise ProgramFailed(f"mt answers `{answer}` to a read by {self.name}@{self.tablet_type}, and `{wanted}` is that of {self.place or 'no place'}, to which its rules lead")
+            where = f"{self.place or 'no place'}, to which its rules lead"
+            raise ProgramFailed(f"mt answers `{answer}` to a read by {self.name}@{self.tablet_type}, and that of {where}, is `{wanted}`")
         return Reached(self.place, answer.partition(" ")[2] if is_refused(answer) else SERVED)
 
 

@@ -118,18 +118,22 @@ def _general(text: str, table: str) -> str:
 
 def _rules(changes: Sequence[RuleChange], tables: Sequence[str]) -> list[str]:
     """The changes by what becomes of a rule; what is the same of each table is told once."""
-    general: dict[tuple[str, str | None, str | None], list[RuleChange]] = {}
-    for it in changes:
-        table = _table_of(it.key, tables)
-        texts = [_general(text, table) if text and table else text for text in (it.key, it.was, it.now)]
-        general.setdefault((texts[0] or "", texts[1], texts[2]), []).append(it)
     lines: dict[tuple[int, str], list[str]] = {}
-    for (key, was, now), alike in general.items():
-        for one in [RuleChange(key, was, now)] if len(alike) == len(tables) > 1 else alike:
-            lines.setdefault(_becomes(one), []).append(one.key)
+    for it in _told_once(changes, tables):
+        lines.setdefault(_becomes(it), []).append(it.key)
     told = [f"{'~+-'[order]} {', '.join(sorted(keys))}{becomes}" for (order, becomes), keys in sorted(lines.items())]
     head = [f"({ANY}: each of {', '.join(tables)})"] if len(tables) > 1 and any(ANY in it for it in told) else []
     return head + (told or ["no change"])
+
+
+def _told_once(changes: Sequence[RuleChange], tables: Sequence[str]) -> list[RuleChange]:
+    """The changes, those that are the same of each table as one, of `TABLE`."""
+    alike: dict[RuleChange, list[RuleChange]] = {}
+    for it in changes:
+        table = _table_of(it.key, tables)
+        general = RuleChange(*(_general(text, table) if text and table else text for text in (it.key, it.was, it.now)))
+        alike.setdefault(general, []).append(it)
+    return [one for general, them in alike.items() for one in ([general] if len(them) == len(tables) > 1 else them)]
 
 
 def _table_of(key: str, tables: Sequence[str]) -> str | None:

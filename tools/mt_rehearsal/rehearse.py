@@ -10,6 +10,7 @@ from mt_runs.program import Program
 from mt_runs.refusals import ScriptPage, read_script_page
 from mt_runs.show import Move, parse_show, stream_word
 from mt_runs.topology import Topology, parse_dump
+from mt_rehearsal import warnings
 from mt_rehearsal.beginning import Beginning
 from mt_rehearsal.cluster import read_cluster
 from mt_rehearsal.commands import CANCEL, COMPLETE, CREATE, REVERSE, SHOWS, SWITCH, Command, read_plan
@@ -20,7 +21,6 @@ from mt_rehearsal.replay import Replay, known_departures
 from mt_rehearsal.report import DONE, PASSED_OVER, REFUSED, SHOWN, CommandReport, Conflict, Copied, Refused, Report, StepShown, Undo, Warned, WayBack
 from mt_rehearsal.session import Session
 from mt_rehearsal.states import States, denied_changes, denied_tables, dropped_tables, rule_changes
-from mt_rehearsal.warnings import warn_of_documents, warn_of_rules
 
 MOST_TURNS = 1000  # of each stream, of 65,535 entries or rows each
 # Refusals of what a cluster may well do: they are limits of mt.
@@ -35,13 +35,13 @@ def rehearse_folder(folder: pathlib.Path, program: str | os.PathLike[str]) -> Re
     page, replay, report = read_script_page(), Replay(known_departures()), Report()
     try:
         cluster, plan = read_cluster(folder), read_plan(folder)
-        report.warnings.extend(Warned("document", it) for it in cluster.notes)
+        report.warn(Warned("document", it) for it in cluster.notes)
         beginning = Beginning(cluster, plan, report)
         session = Session(Program(program, [it.name for it in beginning.keyspaces]))
         report.shards = {name: tuple(shards.values()) for name, shards in beginning.shards.items()}
         report.watchers, report.script = session.program.watchers, session.lines
         beginning.build(session, page)
-        warn_of_documents(beginning, report)
+        report.warn(warnings.of_documents(beginning))
         Rehearsal(beginning, session, page, replay, report).run(plan)
     except CannotRehearse as error:
         report.cannot = str(error)
@@ -61,9 +61,8 @@ class Rehearsal:
         """Rehearses the commands; raises `CannotRehearse` where one can't be represented."""
         for command in plan:
             self._command(command)
-        for number in self.beginning.cluster.seen:
-            if number > len(plan) or number < 1:
-                self.report.warn("document", f"after-{number}: the plan has no command {number}")
+        unknown = [it for it in self.beginning.cluster.seen if not 0 < it <= len(plan)]
+        self.report.warn(Warned("document", f"after-{it}: the plan has no command {it}") for it in unknown)
 
     def _command(self, command: Command) -> None:
         shown = CommandReport(command.number, command.line, command.text, command.action, PASSED_OVER, command.is_dry_run)
@@ -84,8 +83,7 @@ class Rehearsal:
         """Rehearses a command that mt has."""
         shown.not_shown = command.not_shown
         shown.workflow = command.workflow
-        for it in command.departures:
-            self.report.warn("flag", f"command {command.number} has {it}")
+        self.report.warn(Warned("flag", f"command {command.number} has {it}") for it in command.departures)
         move = self.beginning.moves[command.number] if command.action == CREATE else self.live.get(command.workflow)
         if move:
             shown.source, shown.target, shown.tables = move.source, move.target, move.tables
@@ -110,7 +108,8 @@ class Rehearsal:
         if refusal:
             shown.refused = Refused(refusal.name, refusal.when, refusal.what_to_do)
         if answer.partition(" ")[2] in LIMITS:
-            raise CannotRehearse(f"command {command.number}, {command.text}: mt answers `{answer}`, which is a limit of its own: {refusal.when if refusal else ''}")
+            told = f"command {command.number}, {command.text}: mt answers `{answer}`, which is a limit of its own"
+            raise CannotRehearse(f"{told}: {refusal.when}" if refusal else told)
         self.report.problems.append(f"command {command.number} would be refused, {command.text}")
 
     def _tell_changes(self, command: Command, move: Moved, shown: CommandReport, before: Topology) -> None:
@@ -136,7 +135,7 @@ class Rehearsal:
             self._refuse(command, shown, answer)
             return
         self.live[move.workflow] = move
-        warn_of_rules(self.beginning, move, self.report)
+        self.report.warn(warnings.of_rules(self.beginning, move))
         self._write(move)
         shown.copied = Copied(*self._level(move))
 

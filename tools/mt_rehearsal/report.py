@@ -2,7 +2,7 @@
 from __future__ import annotations
 
 import dataclasses
-from collections.abc import Mapping, Sequence
+from collections.abc import Iterable, Mapping, Sequence
 from dataclasses import dataclass, field
 from typing import Any
 
@@ -65,6 +65,7 @@ class Reached:
 
     @property
     def is_served(self) -> bool:
+        """Whether it was answered with a row, or with none."""
         return self.answer == SERVED
 
 
@@ -99,7 +100,7 @@ class Copied:
 
 @dataclass(frozen=True)
 class Undo:
-    """An undo of all steps of a switch that is open: what `mt` answered, and whether the topology is that from before its begin. None where the way has ended."""
+    """An undo of all steps of a switch that is open: what `mt` answered, and whether the topology is then that from before its begin."""
 
     answer: str
     is_as_before: bool
@@ -109,7 +110,8 @@ class Undo:
 class StepShown:
     """A step inside a command, or its begin: what is so behind it.
 
-    `place` is the number that `step` takes, None for the begin. `entries` is how many entries of logs were read so that it could be taken, None if it didn't wait.
+    `place` is the number that `step` takes, None for the begin. `entries` is how many entries of logs were read so that it could be taken, None if it
+    didn't wait. `undo` is None behind the last step.
     """
 
     place: int | None
@@ -198,11 +200,9 @@ class Report:
             return CANNOT_REPRESENT
         return NOT_AS_PLANNED if self.problems else CAN_RUN
 
-    def warn(self, kind: str, text: str) -> None:
-        """Adds a warning, unless it is there."""
-        warned = Warned(kind, text)
-        if warned not in self.warnings:
-            self.warnings.append(warned)
+    def warn(self, warnings: Iterable[Warned]) -> None:
+        """Adds warnings, but for those that are there."""
+        self.warnings = list(dict.fromkeys([*self.warnings, *warnings]))
 
 
 def as_document(report: Report) -> dict[str, Any]:
