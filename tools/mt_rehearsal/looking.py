@@ -52,7 +52,7 @@ def queries(session: Session, move: Moved, topology: Topology, names: Mapping[st
     found: dict[tuple[str, str], dict[str, dict[str, Reached]]] = {}
     for read, answer, at_place in zip(reads, answers[::2], answers[1::2]):
         by_type = found.setdefault((read.table, read.name), {})
-        by_type.setdefault(read.tablet_type, {})[read.shard] = read.reached(answer, at_place)
+        by_type.setdefault(read.tablet_type, {})[move.shards[read.shard]] = read.reached(answer, at_place)
     return [Query(table, name, by_type) for (table, name), by_type in found.items()]
 
 

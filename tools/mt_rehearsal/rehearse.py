@@ -110,7 +110,7 @@ class Rehearsal:
         if answer.partition(" ")[2] in LIMITS:
             told = f"command {command.number}, {command.text}: mt answers `{answer}`, which is a limit of its own"
             raise CannotRehearse(f"{told}: {refusal.when}" if refusal else told)
-        self.report.problems.append(f"command {command.number} would be refused, {command.text}")
+        self.report.problems.append(f"command {command.number} would be refused: {command.text}")
 
     def _tell_changes(self, command: Command, move: Moved, shown: CommandReport, before: Topology) -> None:
         """Tells what a command that was done changed, what queries meet behind it, and the ways back."""
@@ -123,6 +123,7 @@ class Rehearsal:
             shown.same_as = self.states.same_as(after, move)
         shown.queries = queries(self.session, move, after, {table: move.names(table) for table in move.tables})
         shown.ways_back = self._ways_back(move, shown)
+        self.report.problems += _not_returning(shown)
 
     # ---- the commands
 
@@ -259,6 +260,13 @@ class Rehearsal:
         names, lines = tuple(name for name, _ in commands), tuple(line for _, line in commands)
         refusal = next((it for it in answers if it != "ok"), None)
         return WayBack(names, lines, refusal or "ok", None if refusal else self.states.same_as(parse_dump(dump), move))
+
+
+def _not_returning(shown: CommandReport) -> list[str]:
+    """What of the undos and the ways back of a command leads to another topology than it should, which no run may do."""
+    undone = [f"an undo behind `{it.name}`" for it in shown.steps if it.undo and it.undo.answer == "ok" and not it.undo.is_as_before]
+    returned = [f"the way back {', '.join(it.commands)}" for it in shown.ways_back if it.answer == "ok" and not it.same_as]
+    return [f"command {shown.number}: {it} leads to another topology than all before" for it in (*undone, *returned)]
 
 
 def _turns(shown: Move) -> list[str]:
