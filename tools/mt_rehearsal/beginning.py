@@ -4,15 +4,15 @@ from __future__ import annotations
 from collections.abc import Iterator, Mapping, Sequence
 from dataclasses import dataclass
 
-from mt_runs.program import MOST_WATCHERS, is_refused
-from mt_runs.refusals import ScriptPage
-from mt_runs.shards import first_key, is_range
 from mt_rehearsal.cluster import PLAN, Cluster, Keyspace
 from mt_rehearsal.commands import CREATE, WORD, Command
 from mt_rehearsal.documents import CannotRehearse
 from mt_rehearsal.moved import Moved
 from mt_rehearsal.report import Report, Warned
 from mt_rehearsal.session import Session
+from mt_runs.program import MOST_WATCHERS, is_refused
+from mt_runs.refusals import ScriptPage
+from mt_runs.shards import first_key, is_range
 
 MOST_SHARDS, MOST_TABLES = 8, 256
 

@@ -9,12 +9,12 @@ from __future__ import annotations
 from collections.abc import Iterator, Mapping, Sequence
 from dataclasses import dataclass
 
-from mt_runs.program import ProgramFailed, is_refused
-from mt_runs.show import TYPES
-from mt_runs.topology import Topology
 from mt_rehearsal.moved import Moved
 from mt_rehearsal.report import SERVED, Query, Reached
 from mt_rehearsal.session import Session
+from mt_runs.program import ProgramFailed, is_refused
+from mt_runs.show import TYPES
+from mt_runs.topology import Topology
 
 DENIED = "refused F3 Denied"
 NO_PLACE = "rules"  # a line in the place of a read where the rules lead to none; its answer is passed over

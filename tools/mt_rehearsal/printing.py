@@ -5,7 +5,6 @@ import json
 import re
 from collections.abc import Iterable, Iterator, Mapping, Sequence
 
-from mt_runs.show import TYPES
 from mt_rehearsal.report import (
     CAN_RUN,
     DONE,
@@ -24,13 +23,15 @@ from mt_rehearsal.report import (
     Undo,
     WayBack,
 )
+from mt_runs.show import TYPES
+from mt_runs.words import counted, entries
 
 AllShards = Mapping[str, Sequence[str]]  # the names of each keyspace's shards
 ANY = "TABLE"  # in the place of a table's name, where all tables of a move behave alike
 SHORT = {"F3 Denied": "refused", "T2 NoTable": "no such table", "T3 Ambiguous": "ambiguous"}
 INDENT, LABEL = " " * 4, 16
 QUERY_HEADS = ("by name", "writes, primary reads", "replica", "rdonly")
-STEP_HEADS = ("inside this command", "by name: writes", "replica", "rdonly", "primaries that refuse", "if it fails here", "")
+STEP_HEADS = ("inside this command", "by name: writes", "replica", "rdonly", "primaries that refuse", "if it fails here", "waited for")
 
 
 def text_of(report: Report, with_rules: bool) -> Iterator[str]:
@@ -61,10 +62,6 @@ def _verdict(report: Report) -> Iterator[str]:
         yield f"The plan can be run as it is{'; passed over: ' if passed_over else ''}{', '.join(passed_over)}"
 
 
-def _count(number: int, one: str, several: str) -> str:
-    return f"{number} {one if number == 1 else several}"
-
-
 def _labelled(label: str, lines: Iterable[str]) -> Iterator[str]:
     """Lines of which the first has a label before it."""
     for line in lines:
@@ -81,8 +78,8 @@ def _of_command(command: CommandReport, shards: AllShards, with_rules: bool) -> 
     if command.outcome == REFUSED:
         yield from _labelled("REFUSED", _refused(command))
     if command.copied:
-        rows, entries = _count(command.copied.rows, "sample row", "sample rows"), _count(command.copied.entries, "entry", "entries")
-        yield from _labelled("mt", [f"ok; then the streams copied {rows} and read {entries}"])
+        rows = counted(command.copied.rows, "sample row", "sample rows")
+        yield from _labelled("mt", [f"ok; then the streams copied {rows} and read {entries(command.copied.entries)}"])
     yield from _steps(command, shards)
     if command.outcome == DONE:
         yield from _outcome(command)
@@ -224,7 +221,7 @@ def _steps(command: CommandReport, shards: AllShards) -> Iterator[str]:
 def _step_row(step: StepShown, shards: AllShards) -> tuple[str, ...]:
     name = step.name if step.place is None else f"{step.place:2} {step.name}"
     cells = [_merged(column) for column in zip(*map(_cells, step.queries))]
-    waited = "" if step.entries is None else f"after the streams read {_count(step.entries, 'entry', 'entries')}"
+    waited = "" if step.entries is None else entries(step.entries)
     return (name, *cells, _refusing(step, shards), _undo(step.undo), waited)
 
 

@@ -3,9 +3,9 @@ from __future__ import annotations
 
 from collections.abc import Sequence
 
-from mt_runs.topology import Topology
 from mt_rehearsal.moved import Moved
 from mt_rehearsal.report import DeniedChange, RuleChange, SameAs
+from mt_runs.topology import Topology
 
 
 class States:
