@@ -2,6 +2,7 @@
 from __future__ import annotations
 
 import difflib
+import functools
 import json
 import pathlib
 import re
@@ -61,6 +62,12 @@ def output(report: Report) -> str:
     return "".join(f"{line}\n" for line in text_of(report, with_rules=False))
 
 
+@functools.lru_cache(maxsize=None)
+def rehearsed(folder: pathlib.Path, program: str) -> Report:
+    """The report of a folder, which is made once."""
+    return rehearse_folder(folder, program)
+
+
 def write(program: str) -> None:
     """Writes the outputs anew."""
     for folder in folders():
@@ -70,7 +77,7 @@ def write(program: str) -> None:
 def outputs(program: str) -> Iterator[str | None]:
     """Where the output of a rehearsal isn't the one beside it, or its status another than its last lines say."""
     for folder in folders():
-        report = rehearse_folder(folder, program)
+        report = rehearsed(folder, program)
         got, want = output(report), folder.with_suffix(".output").read_text(encoding="utf-8")
         lines = difflib.unified_diff(want.splitlines(), got.splitlines(), "wanted", "printed", lineterm="", n=0)
         yield None if got == want else f"{folder.name}:\n    " + "\n    ".join(lines)
@@ -82,7 +89,7 @@ def documents(program: str) -> Iterator[str | None]:
     text = PAGE.read_text(encoding="utf-8").partition("## The rehearsal as a document")[2]
     told, found = set(re.findall(r"`([a-z_]+)`", text)), set()
     for folder in folders():
-        report = rehearse_folder(folder, program)
+        report = rehearsed(folder, program)
         document = json.loads(json.dumps(as_document(report)))
         found |= set(members(document))
         yield None if document["status"] == report.status else f"{folder.name}: the document has the status {document['status']}"
@@ -112,7 +119,7 @@ def leaves(value: object) -> Iterator[object]:
 def scripts(program: str) -> Iterator[str | None]:
     """Where the script of a rehearsal leads to other rules than it tells, or a line of it is refused."""
     for folder in folders():
-        report = rehearse_folder(folder, program)
+        report = rehearsed(folder, program)
         if not report.commands:
             continue
         *answers, dump = Program(program, report.watchers).answers([*report.script, "dump"])

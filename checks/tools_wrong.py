@@ -31,7 +31,7 @@ status = ended.returncode
 sys.stdout.write("".join(it + "\\n" for it in answers))
 sys.exit(status)
 '''
-# What is changed, and what the rehearsal of two_shards tells then: a part of its output, or of the reason why it ends.
+# What is changed, and what a rehearsal tells then: a part of its output, or of the reason why it ends.
 CHANGES = {
     "answers = answers[:-1]": "lines",
     "answers += ['ok']": "lines",
@@ -40,7 +40,7 @@ CHANGES = {
     "answers = [it.replace('\"rules\"', '\"ruled\"') for it in answers]": "dump was answered otherwise",
     "answers = [it.replace('events', 'event') for it in answers]": "to a turn of a stream",
     "answers = ['row stale' if line.startswith('get corder@replica') else it for line, it in zip(lines, answers)]": "mt answers `row stale` to a read by corder@replica",
-    "answers = ['refused F27 Full' if line.startswith('step mv') or line.startswith('step orders') else it for line, it in zip(lines, answers)]": "mt answers `refused F27 Full` to `step orders 0`",
+    "answers = ['refused F27 Full' if line.startswith('step ') else it for line, it in zip(lines, answers)]": "mt answers `refused F27 Full` to `step orders 0`",
     "answers = [it.replace('commerce.corder', 'commerce.cart') if any(x.startswith('undo') for x in lines) else it for it in answers]": "an undo behind `begun` leads to another topology",
     "answers = [it.replace('\"denied\":[]', '\"denied\":[\"commerce.corder\"]') if lines[-2].startswith('cancel') else it for it in answers]": "the way back cancel leads to another topology",
 }
@@ -56,7 +56,7 @@ def wrapped(room: str, program: str, change: str) -> str:
 
 def programs(program: str) -> Iterator[str | None]:
     """Which programs that answer wrongly aren't told apart, and what the prompt says of one that ends in the middle."""
-    folder = tools_outputs.REHEARSALS / "two_shards"
+    folder = tools_outputs.REHEARSALS / "stops_in_the_middle"
     for change, wanted in CHANGES.items():
         with tempfile.TemporaryDirectory() as room:
             try:
