@@ -58,6 +58,7 @@ def wrong_program(change: Callable[[list[str], Answers], Answers]) -> contextlib
     right = Program._output
 
     def changed(self: Program, script: bytes) -> str:
+        """What a run prints then."""
         lines = [it for it in script.decode().split("\n") if not is_silent(it)]
         return "".join(f"{it}\n" for it in change(lines, right(self, script).split("\n")[:-1]))
 
