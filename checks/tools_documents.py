@@ -106,12 +106,17 @@ def of_document(folder: pathlib.Path, path: pathlib.Path) -> Iterator[str | None
 
 
 def of_plans(folder: pathlib.Path) -> Iterator[str | None]:
-    """What is wrong with how plans are read of which words are left out, doubled, and mixed with others, and with what is no plan."""
+    """What is wrong with how plans are read of which words are left out, doubled, and mixed with others."""
     draw, path = random.Random(folder.name), folder / "plan.txt"
     text = path.read_text()
     for number in range(PLANS):
         path.write_text(mixed(draw, text))
         yield complaint(folder, f"{folder.name}, plan {number}")
+    yield from of_no_plans(folder, path)
+
+
+def of_no_plans(folder: pathlib.Path, path: pathlib.Path) -> Iterator[str | None]:
+    """The same of texts that are no plan, and of a plan that is missing."""
     for what, other in NO_PLANS.items():
         path.write_bytes(other)
         yield complaint(folder, f"{folder.name}, a plan that is {what}", must_fail=True)

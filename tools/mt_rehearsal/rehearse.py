@@ -155,9 +155,9 @@ class Rehearsal:
     def _switch(self, command: Command, move: Moved, shown: CommandReport) -> str | None:
         level(self.session, move)
         write(self.session, move)
-        switching = Switching(self.session, move, command.types, back=command.action == REVERSE)
-        shown.types, shown.steps = switching.types, switching.steps
-        return switching.refusal
+        switched = Switching(self.session, move).take(command.types, back=command.action == REVERSE)
+        shown.types, shown.steps = switched.types, switched.steps
+        return switched.refusal
 
     def _end(self, command: Command, move: Moved, shown: CommandReport) -> str | None:
         answer = self.session.take([f"{command.action} {move.workflow}"])[0]

@@ -2,6 +2,7 @@
 from __future__ import annotations
 
 from collections.abc import Sequence
+from dataclasses import dataclass
 
 from mt_rehearsal.documents import CannotRehearse
 from mt_rehearsal.looking import look
@@ -17,28 +18,33 @@ from mt_runs.topology import parse_dump
 NOT_LEVEL = "refused F18 NotLevel"
 
 
+@dataclass(frozen=True)
+class Switched:
+    """What came of a switch or a reversal: the refusal if its begin was refused, or the types that it changed, and what was so behind each step."""
+
+    refusal: str | None
+    types: tuple[str, ...]
+    steps: list[StepShown]
+
+
 class Switching:
-    """A way that is to be opened on a live move, whose streams are level but for what a client just wrote.
+    """A switch or a reversal of a live move, whose streams are level but for what a client just wrote."""
 
-    `refusal` is what its begin was answered if that was refused, `types` what it changes, and `steps` what was so behind each step.
-    """
-
-    def __init__(self, session: Session, move: Moved, types: str, back: bool) -> None:
+    def __init__(self, session: Session, move: Moved) -> None:
         self.session, self.move = session, move
-        self.steps: list[StepShown] = []
-        self.types: tuple[str, ...] = ()
-        self.refusal: str | None = None
-        line = f"begin-{'reverse' if back else 'switch'} {move.workflow} {types}"
-        before, answer, *behind = session.take(["dump", line, *self._state_lines])
+        self._before = session.topology()
+
+    def take(self, types: str, back: bool) -> Switched:
+        """Begins it and takes all its steps; raises `CannotRehearse` if a step is refused."""
+        line = f"begin-{'reverse' if back else 'switch'} {self.move.workflow} {types}"
+        answer, *behind = self.session.take([line, *self._state_lines])
         if answer != "ok":
-            self.refusal = answer
-            return
-        self._before = parse_dump(before)
+            return Switched(answer, (), [])
         way = parse_show(behind[1]).way
-        self.types = way.types if way else ()
-        self.steps.append(self._behind(None, "begun", None, behind))
-        for place, step in enumerate(planned_steps(self.types, back, list(move.shards))):
-            self.steps.append(self._take(place, step))
+        changed = way.types if way else ()
+        steps = planned_steps(changed, back, list(self.move.shards))
+        begun = self._behind(None, "begun", None, behind)
+        return Switched(None, changed, [begun, *(self._take(place, step) for place, step in enumerate(steps))])
 
     @property
     def _state_lines(self) -> tuple[str, str]:
