@@ -7,6 +7,7 @@ import re
 import shutil
 import subprocess
 import tempfile
+from collections.abc import Sequence
 
 from mt_runs.program import REPOSITORY
 
@@ -33,10 +34,14 @@ def modules_text(entry: str, done: set[str] | None = None) -> str:
     return "".join([*before, EXPORT.sub("", IMPORT.sub("", text))])
 
 
-def page_text(title: str, facts: str) -> str:
+def page_text(title: str, watchers: Sequence[str], facts: str) -> str:
     """A page that draws these facts, given as JSON, with the drawing inside."""
-    # a `<` in a script could end it
-    parts = {"title": html.escape(title), "facts": facts.replace("<", "\\u003c"), "modules": modules_text("page.mjs")}
+    parts = {
+        "title": html.escape(title),
+        "watchers": html.escape(" ".join(watchers)),
+        "facts": facts.replace("<", "\\u003c"),  # which could end the script that they stand in
+        "modules": modules_text("page.mjs"),
+    }
     return PLACE.sub(lambda found: parts[found[1]], (FOLDER / "page.html").read_text(encoding="utf-8"))
 
 

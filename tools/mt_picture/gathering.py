@@ -150,14 +150,15 @@ class History:
 
     def first_column_of(self, column: int) -> int:
         """The first column of what the way back from a column takes back: of the way that is open, of the switched traffic, or of the move."""
-        while column > 0 and self.takes_back(column - 1, self.shown[column]):
+        behind = self.shown[column]
+        while column > 0 and behind and self.takes_back(column - 1, behind):
             column -= 1
         return column
 
-    def takes_back(self, column: int, behind: Optional[Move]) -> bool:
-        """Whether what the way back takes back has begun by a column, if behind the next one the move stands so."""
+    def takes_back(self, column: int, behind: Move) -> bool:
+        """Whether what the way back takes back from a move that stands so has begun by a column before."""
         shown = self.shown[column]
-        if shown is None or behind is None:
+        if shown is None:
             return False
         if behind.way:
             return shown.way is not None

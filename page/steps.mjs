@@ -1,0 +1,137 @@
+/** The steps of switches and reversals: how many stand done behind each column, and the journal, behind which none is undone. */
+
+import { refusalIn, wordsIn } from "./facts.mjs";
+import { GREEN, HALO, INK, RED, RULE, SMALL, SOFT, TEAL, cross, cut, element, line, rect, short, words } from "./svg.mjs";
+
+const RUNG = 15;
+const STEPS = 12;
+
+/** @typedef {import("./lanes.mjs").Panel} Panel */
+
+/** Whether any way is opened on the move. @param {Panel} panel */
+export function hasSteps(panel) {
+  return panel.states.some((state) => state && (state.way || state.drive));
+}
+
+/** How high the steps are drawn. */
+export const STEPS_HEIGHT = STEPS * RUNG + 12;
+
+/**
+ * The steps of a move, below a place.
+ * @param {Panel} panel
+ * @param {number} top
+ */
+export function stepsDrawn(panel, top) {
+  const yOf = (level) => top + 8 + (STEPS - level) * RUNG;
+  return element("g", { class: "steps" }, ground(panel, yOf), ...climbs(panel, yOf), journalWords(panel, yOf));
+}
+
+function ground({ move, xs, labels }, yOf) {
+  const right = xs.at(-1);
+  const behind = rect(xs[0], yOf(STEPS) - 4, right - xs[0], yOf(move.journal) - yOf(STEPS) + 4, "#fdf3f2");
+  const rungs = move.steps.map((name, number) => {
+    const isJournal = number === move.journal;
+    const more = { "font-size": SMALL, fill: isJournal ? RED : SOFT, "text-anchor": "end", "font-weight": isJournal ? 700 : null };
+    return words(labels, yOf(number + 1) + RUNG / 2 + 4, cut(isJournal ? name.toUpperCase() : name, 38), more) + line(xs[0], yOf(number + 1), right, yOf(number + 1), "#eceff2");
+  });
+  const foot = line(xs[0], yOf(0), right, yOf(0), RULE);
+  return behind + rungs.join("") + foot + line(xs[0], yOf(move.journal), right, yOf(move.journal), RED, 1.6, { "stroke-dasharray": "6 4" });
+}
+
+function journalWords({ move, xs }, yOf) {
+  const more = { "font-size": SMALL, "font-weight": 600, ...HALO };
+  const after = words(xs[0] + 6, yOf(move.journal) - 5, "after the journal: only forward", { ...more, fill: RED });
+  return after + words(xs[0] + 6, yOf(move.journal) + 13, "before it: can be undone", { ...more, fill: TEAL });
+}
+
+/**
+ * How high a way stands with so many steps done; of a step that is done for each shard each one counts a part.
+ * @param {number[]} steps
+ * @param {number} done
+ */
+export function levelOf(steps, done) {
+  if (done === 0) return steps[0];
+  const step = steps[done - 1];
+  const first = steps.indexOf(step);
+  return step + (done - first) / steps.filter((it) => it === step).length;
+}
+
+/** The marks of all columns, each drawn from where the one before it stands. @param {Panel} panel @returns {string[]} */
+function climbs(panel, yOf) {
+  let level = null;
+  return panel.states.map((state, column) => {
+    const before = level;
+    const way = state?.way ?? null;
+    level = way && levelOf(way.steps, way.done);
+    const place = { left: panel.xs[column], right: panel.xs[column + 1], middle: (panel.xs[column] + panel.xs[column + 1]) / 2, yOf };
+    if (way) return openColumn(panel, column, before, place);
+    if (before !== null) return closedColumn(panel, column, before, place);
+    return state?.drive ? driveColumn(state.drive, panel.xs.at(-1), place) : "";
+  });
+}
+
+function openColumn(panel, column, before, { left, right, middle, yOf }) {
+  const { way } = panel.states[column];
+  const level = levelOf(way.steps, way.done);
+  const from = before ?? levelOf(way.steps, 0);
+  const colour = way.undoing ? TEAL : INK;
+  const climb = path([[left, yOf(from)], [left, yOf(level)], [right, yOf(level)]], colour);
+  const start = before === null ? element("circle", { cx: left, cy: yOf(from), r: 3.5, fill: INK }) : "";
+  const refused = isRefusedStep(panel, column) ? cross(middle, yOf(level), 5) : "";
+  return climb + start + shardWords(panel.move, way, level > from, left, yOf(level)) + refused;
+}
+
+/** Which shard the last step was done for, if it is one of several. */
+function shardWords(move, way, isHigher, left, y) {
+  const step = way.steps[way.done - 1];
+  const alike = way.steps.filter((it) => it === step).length;
+  if (!isHigher || alike < 2) return "";
+  const shard = move.shards[way.done - 1 - way.steps.indexOf(step)];
+  return words(left + 4, y - 3, cut(shard, 11), { "font-size": 9, ...HALO });
+}
+
+/** A way that its line closed: with its last step, or with its last undo. */
+function closedColumn(panel, column, before, { left, middle, yOf }) {
+  const { steps } = panel.states[column - 1].way;
+  const [verb] = wordsIn(panel.facts.lines[panel.facts.columns[column].first - 1].text);
+  const isUndone = verb === "undo";
+  const end = levelOf(steps, isUndone ? 0 : steps.length);
+  const climb = path([[left, yOf(before)], [left, yOf(end)], [middle, yOf(end)]], isUndone ? TEAL : INK);
+  return climb + element("circle", { cx: middle, cy: yOf(end), r: 4.5, fill: isUndone ? TEAL : GREEN, stroke: "#ffffff", "stroke-width": 1.2 });
+}
+
+/** A switch or a reversal in one line. */
+function driveColumn(drive, edge, place) {
+  return drive.undone ? abandonedDrive(drive, edge, place) : wholeDrive(drive, edge, place);
+}
+
+function wholeDrive({ steps, direction }, edge, { middle, yOf }) {
+  const [foot, head] = [yOf(levelOf(steps, 0)), yOf(levelOf(steps, steps.length))];
+  const arrow = `M${short(middle - 6)} ${short(head + 10)}L${short(middle)} ${short(head)}L${short(middle + 6)} ${short(head + 10)}Z`;
+  const text = steps.length > 1 ? `all ${steps.length}${direction === "back" ? " back" : ""}, in one line` : `1 step${direction === "back" ? " back" : ""}`;
+  return line(middle, foot, middle, Math.min(head + 8, foot), INK, 4) + element("path", { d: arrow, fill: INK }) + besideDrive(text, middle, foot - 5, edge, INK);
+}
+
+function abandonedDrive({ steps, done }, edge, { middle, yOf }) {
+  const [foot, head] = [yOf(levelOf(steps, 0)), yOf(levelOf(steps, done))];
+  const lines = line(middle - 3, foot, middle - 3, head, INK, 2.4) + line(middle + 3, foot, middle + 3, head, TEAL, 2.4);
+  const text = `${done} step${done === 1 ? "" : "s"}, then undone by itself`;
+  return lines + cross(middle, head - 4, 5) + besideDrive(text, middle, head - 14, edge, TEAL);
+}
+
+/** Words beside a mark, on its left where they would pass the edge. */
+function besideDrive(text, middle, y, edge, colour) {
+  const isLeft = middle + 150 > edge;
+  return words(isLeft ? middle - 9 : middle + 9, y, text, { "font-size": SMALL, fill: colour, "text-anchor": isLeft ? "end" : "start", ...HALO });
+}
+
+/** Whether a column is a step or an undo of the move that was refused, or a whole switch that stopped. */
+function isRefusedStep({ facts, move }, column) {
+  const { text, answer } = facts.lines[facts.columns[column].first - 1];
+  const [verb, workflow] = wordsIn(text);
+  return ["step", "undo", "switch", "reverse"].includes(verb) && workflow === move.workflow && refusalIn(answer) !== null;
+}
+
+function path(points, colour) {
+  return element("polyline", { points: points.map(([x, y]) => `${short(x)},${short(y)}`).join(" "), fill: "none", stroke: colour, "stroke-width": 2.4 });
+}
