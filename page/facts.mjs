@@ -63,9 +63,21 @@ export function refusalsOf(facts, column) {
   return [...new Set(names.filter((name) => name !== null))];
 }
 
-/** The keyspace of a table that is written with it. @param {string} table */
-export function keyspaceOf(table) {
-  return table.slice(0, table.indexOf("."));
+/**
+ * Who serves a table by its name, in short: the keyspace, with another table behind it if the name leads to one; or the refusal.
+ * @param {string} value what `by_name` has
+ * @param {string} table
+ */
+export function serverOf(value, table) {
+  return value.endsWith(`.${table}`) ? value.slice(0, -table.length - 1) : value;
+}
+
+/**
+ * The key range that neighbouring shards have together.
+ * @param {string[]} shards
+ */
+export function rangeOf(shards) {
+  return `${shards[0].split("-")[0]}-${shards.at(-1).split("-")[1]}`;
 }
 
 /** One, or several of a thing. @param {number} count @param {string} one @param {string} [several] */

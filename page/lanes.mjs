@@ -1,6 +1,6 @@
 /** The lanes of a move over the columns: its phase, who serves, its streams, and the way back. */
 
-import { TYPES, keyspaceOf, stretches } from "./facts.mjs";
+import { TYPES, rangeOf, serverOf, stretches } from "./facts.mjs";
 import { phaseOf, streamTexts, wayBackOf } from "./words.mjs";
 import { INK, RED, SIDES, SMALL, SOFT, RULE, cross, cut, dot, element, firstThatFits, line, rect, widthOf, words } from "./svg.mjs";
 
@@ -68,7 +68,7 @@ export function phaseLanes(panel) {
     const large = firstThatFits(value.texts, room, WORDS_SIZE, true);
     const text = large ?? firstThatFits(value.texts, room, 10) ?? "";
     const more = { "text-anchor": "middle", ...(large ? { "font-weight": 600 } : { "font-size": 10 }) };
-    return rect(left, top, right - left - 1, height, PHASES[value.kind], { rx: 3 }) + words((left + right) / 2, top + height / 2 + 4, text, more);
+    return rect(left, top, right - left - 1, height, PHASES[value.kind], { rx: 3 }) + words(Math.min((left + right) / 2, left + 300), top + height / 2 + 4, text, more);
   };
   return [{ name: "phase", labels: ["phase"], height: 22, gap: 4, values, says: (value) => value.texts[0], draw, marks: [] }];
 }
@@ -88,29 +88,38 @@ export function tablesAlike(panel, said) {
   return [...groups.values()];
 }
 
-/** Who answers by the name of these tables: a lane for each type, and for each shard where shards are told apart. @param {Panel} panel @param {string[]} tables @returns {Lane[]} */
-export function nameLanes(panel, tables) {
-  const { shards } = panel.move;
-  const ofShard = (type, shard) => panel.states.map((state) => state && state.by_name[tables[0]][type][shard]);
-  const lanes = (type) => {
-    const series = shards.map((shard) => JSON.stringify(ofShard(type, shard)));
-    const apart = shards.length > 1 && (type === "primary" || new Set(series).size > 1);
-    return (apart ? shards : [null]).map((shard) => nameLane(panel, tables, type, shard, ofShard(type, shard ?? shards[0])));
-  };
-  return Object.keys(TYPES).flatMap(lanes);
+/**
+ * Shards that have a lane together: each has its own where there are two, and neighbours for which all columns say the same share one where there are more.
+ * @param {string[]} shards
+ * @param {(shard: string) => any[]} valuesOf
+ * @param {boolean} isShared whether two share one too
+ */
+function shardsAlike(shards, valuesOf, isShared) {
+  if (shards.length < 3 && !isShared) return shards.map((shard) => [shard]);
+  return stretches(shards.map(valuesOf)).map(({ from, to }) => shards.slice(from, to + 1));
 }
 
-function nameLane(panel, tables, type, shard, values) {
-  const keys = shard === null ? "" : `, keys ${shard}`;
+/** Who answers by the name of these tables: a lane for each type and each shard that has one. @param {Panel} panel @param {string[]} tables @returns {Lane[]} */
+export function nameLanes(panel, tables) {
+  const [table] = tables;
+  return Object.keys(TYPES).flatMap((type) => {
+    const valuesOf = (shard) => panel.states.map((state) => state && serverOf(state.by_name[table][type][shard], table));
+    const groups = shardsAlike(panel.move.shards, valuesOf, type !== "primary");
+    return groups.map((shards) => nameLane(panel, tables, type, shards, valuesOf(shards[0])));
+  });
+}
+
+function nameLane(panel, tables, type, shards, values) {
+  const keys = shards.length === panel.move.shards.length ? "" : `, keys ${rangeOf(shards)}`;
   return {
-    name: `name ${tables.join(",")} ${type}${shard === null ? "" : ` ${shard}`}`,
-    labels: [`${TYPES[type]}${keys}`, `${TYPES[type].split(",")[0]}${keys}`, `keys ${shard}`],
-    height: panel.move.shards.length > 3 ? 20 : 26,
+    name: `name ${tables.join(",")} ${type} ${shards.join(",")}`,
+    labels: [`${TYPES[type]}${keys}`, `${TYPES[type].split(",")[0]}${keys}`],
+    height: 26,
     gap: 4,
     values,
     says: (value) => value,
     draw: (bar) => servedBar(panel.move, bar),
-    marks: marksOf(panel, (query) => query.at === null && tables.includes(query.table) && query.type === type && (shard === null || query.shard === shard)),
+    marks: marksOf(panel, (query) => query.at === null && tables.includes(query.table) && query.type === type && shards.includes(query.shard)),
   };
 }
 
@@ -135,10 +144,9 @@ function clearOfMarks({ left, right, marks }, width) {
 function servedBar(move, bar) {
   const { left, right, top, height, value } = bar;
   if (value.startsWith("refused ")) return refusedBar(bar, "refused");
-  const keyspace = keyspaceOf(value);
-  const { strong, words: colour } = SIDES[sideOf(move, keyspace)];
-  const at = clearOfMarks(bar, widthOf(keyspace, WORDS_SIZE, true));
-  const said = at === null ? "" : words(at, top + height / 2 + 4, keyspace, { fill: colour, "font-weight": 600 });
+  const { strong, words: colour } = SIDES[sideOf(move, value.split(".")[0])];
+  const at = clearOfMarks(bar, widthOf(value, WORDS_SIZE, true));
+  const said = at === null ? "" : words(at, top + height / 2 + 4, value, { fill: colour, "font-weight": 600 });
   return rect(left, top, right - left, height, strong) + said;
 }
 
@@ -156,16 +164,18 @@ function refusedBar(bar, word) {
 /** Which primaries take clients that ask them directly. @param {Panel} panel @param {string[]} tables @returns {Lane[]} */
 export function primaryLanes(panel, tables) {
   const { move } = panel;
-  const sides = [[move.source, "-"], ...move.shards.map((shard) => [move.target, shard])];
-  return sides.map(([keyspace, shard]) => ({
-    name: `primary ${keyspace} ${tables.join(",")} ${shard}`,
-    labels: [shard === "-" ? keyspace : `${keyspace} ${shard}`, shard === "-" ? keyspace : shard],
+  const valuesOf = (keyspace, shard) => panel.states.map((state) => shownAtPrimary(state, keyspace, tables[0], shard));
+  const ofTarget = shardsAlike(move.shards, (shard) => valuesOf(move.target, shard), false);
+  const sides = [[move.source, ["-"]], ...ofTarget.map((shards) => [move.target, shards])];
+  return sides.map(([keyspace, shards]) => ({
+    name: `primary ${keyspace} ${tables.join(",")} ${shards.join(",")}`,
+    labels: rangeOf(shards) === "-" ? [keyspace] : [`${keyspace} ${rangeOf(shards)}`, rangeOf(shards)],
     height: 15,
     gap: 3,
-    values: panel.states.map((state) => shownAtPrimary(state, keyspace, tables[0], shard)),
+    values: valuesOf(keyspace, shards[0]),
     says: (value) => value,
     draw: (bar) => primaryBar(SIDES[sideOf(move, keyspace)], bar),
-    marks: marksOf(panel, (query) => query.at === keyspace && tables.includes(query.table) && query.shard === shard),
+    marks: marksOf(panel, (query) => query.at === keyspace && tables.includes(query.table) && shards.includes(query.shard)),
   }));
 }
 
@@ -194,7 +204,7 @@ export function streamLanes(panel) {
       const name = several ? ` ${shard}` : "";
       const draw = (bar) => streamBar(SIDES[sideOf(move, into)], bar);
       const labels = [`${from} → ${into}${name}`, `→ ${into}${name}`, `${direction}${name}`];
-      return { name: `stream ${direction} ${shard}`, labels, height: move.shards.length > 3 ? 20 : 26, gap: 4, values, says: saidOfStream, draw, marks: [] };
+      return { name: `stream ${direction} ${shard}`, labels, height: move.shards.length > 3 ? 22 : 26, gap: 4, values, says: saidOfStream, draw, marks: [] };
     }),
   );
   return lanes.filter((lane) => lane.values.some((value) => value !== null));
@@ -212,10 +222,12 @@ function streamBar(side, { left, right, top, height, value }) {
   const [fill, stroke, dash] = looks[value.state];
   const frame = rect(left + 0.5, top, room - 1.5, height, fill, { rx: 3, stroke, "stroke-dasharray": dash });
   const strip = isBehind ? rect(left + 0.5, top + height - 5, room - 1.5, 5, RED, { class: "behind" }) : "";
-  const text = firstThatFits(streamTexts(value), room - 9, SMALL, isBehind) ?? "";
+  const texts = streamTexts(value);
+  const text = firstThatFits(texts, room - 9, SMALL, isBehind) ?? firstThatFits(texts.slice(-1), room - 2, SMALL - 1) ?? "";
   const colour = isBehind ? RED : value.state === "running" ? INK : SOFT;
-  const more = { "font-size": SMALL, fill: colour, "font-weight": isBehind ? 600 : null };
-  return frame + strip + (text ? words(left + 5, top + height / 2 + (isBehind ? 1.5 : 4), text, more) : "");
+  const more = { "font-size": text === texts.at(-1) ? SMALL - 1 : SMALL, fill: colour, "font-weight": isBehind ? 600 : null };
+  const at = left + Math.min(5, Math.max(room - widthOf(text, SMALL), 3) / 2);
+  return frame + strip + (text ? words(at, top + height / 2 + (isBehind ? 1.5 : 4), text, more) : "");
 }
 
 /** The way back from here. @param {Panel} panel @returns {Lane[]} */

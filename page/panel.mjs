@@ -1,5 +1,6 @@
 /** A move over the columns: its title, and its lanes one below the other. */
 
+import { serverOf } from "./facts.mjs";
 import { laneDrawn, nameLanes, phaseLanes, primaryLanes, streamLanes, tablesAlike, wayBackLanes } from "./lanes.mjs";
 import { STEPS_HEIGHT, hasSteps, stepsDrawn } from "./steps.mjs";
 import { INK, MARGIN, RULE, SIDES, SOFT, cut, element, escaped, line, stacked, words } from "./svg.mjs";
@@ -16,7 +17,7 @@ export function panelDrawn(panel, top) {
   const parts = [
     titled(panel),
     ...phaseLanes(panel).map((lane) => laned(panel, lane)),
-    ...section(panel, "WHO ANSWERS A QUERY BY THE TABLE'S NAME", groupedLanes(panel, (state, table) => state.by_name[table], nameLanes)),
+    ...section(panel, "WHO ANSWERS A QUERY BY THE TABLE'S NAME", groupedLanes(panel, namesOf, nameLanes)),
     ...section(panel, "WHICH PRIMARY TAKES CLIENTS (ASKED DIRECTLY, PAST THE RULES)", groupedLanes(panel, primariesOf, primaryLanes)),
     ...section(panel, "STREAMS: THE POSITION EACH STANDS AT IN THE LOG IT READS, AND HOW FAR IT IS BEHIND", streamLanes(panel).map((lane) => laned(panel, lane))),
     ...(hasSteps(panel) ? section(panel, "STEPS OF A SWITCH THAT STAND DONE", [(y) => ({ svg: stepsDrawn(panel, y), bottom: y + STEPS_HEIGHT })]) : []),
@@ -25,6 +26,11 @@ export function panelDrawn(panel, top) {
   ];
   const { svg, bottom } = stacked(top, parts);
   return { svg: element("g", { class: "move", "data-move": panel.index }, svg), bottom };
+}
+
+/** Who answers by a table's name, without the table's own name. */
+function namesOf(state, table) {
+  return Object.values(state.by_name[table]).map((shards) => Object.values(shards).map((value) => serverOf(value, table)));
 }
 
 function primariesOf(state, table) {

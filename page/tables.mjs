@@ -1,6 +1,6 @@
 /** The facts as tables of HTML: each line with its answer, and what stands behind each column. */
 
-import { TYPES, keyspaceOf, linesOf, numbersOf, refusalIn } from "./facts.mjs";
+import { TYPES, numbersOf, refusalIn, serverOf } from "./facts.mjs";
 import { cut, escaped } from "./svg.mjs";
 import { moveSentence, phaseOf, refusalWords, streamTexts, wayBackOf } from "./words.mjs";
 
@@ -45,7 +45,7 @@ function accountRow(facts, move, column, state) {
 
 function namesServed(state) {
   return Object.entries(state.by_name).flatMap(([table, types]) =>
-    Object.entries(types).map(([type, shards]) => `${table}, ${TYPES[type]}: ${byShard(shards, (value) => (value.startsWith("refused") ? value : keyspaceOf(value)))}`),
+    Object.entries(types).map(([type, shards]) => `${table}, ${TYPES[type]}: ${byShard(shards, (value) => serverOf(value, table))}`),
   );
 }
 

@@ -8,7 +8,7 @@ from dataclasses import dataclass
 
 from mt_runs.program import MOST_WATCHERS, is_silent
 
-RUN_COMMENT = re.compile(r"^#.*\bmt run\b([^<\n]*)", re.M)
+RUN_WORDS = re.compile(r"\bmt run\b([^<\n]*)")
 BLANKS = re.compile(r"[ \t]+")
 
 
@@ -67,13 +67,13 @@ def _lines_and_notes(text: str) -> tuple[list[str], dict[int, list[str]]]:
 
 
 def _paragraphs(block: Sequence[str]) -> list[str]:
-    """The paragraphs of a comment, without the one that says how the script is run."""
-    found = [" ".join(part.split("\n")) for part in re.split(r"\n{2,}", "\n".join(block).strip("\n"))]
-    return [part for part in found if part and not re.search(r"\bmt run\b", part)]
+    """The paragraphs of a comment, without the line that says how the script is run."""
+    text = "\n".join("" if RUN_WORDS.search(line) else line for line in block)
+    return [" ".join(part.split("\n")) for part in re.split(r"\n{2,}", text.strip("\n")) if part]
 
 
 def _watchers(text: str, lines: Sequence[str]) -> tuple[str, ...]:
-    told = RUN_COMMENT.search(text)
+    told = next((found for line in text.split("\n") if line.startswith("#") and (found := RUN_WORDS.search(line))), None)
     if told:
         return tuple(told[1].split())
     words = [words_of(line) for line in lines]
