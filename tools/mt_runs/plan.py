@@ -44,6 +44,11 @@ class PlannedStep:
         """Whether it is refused as long as a write has not been brought to the other side."""
         return self.number in (READS, CATCH_UP)
 
+    @property
+    def refreshes(self) -> bool:
+        """Whether it has a primary take over what the topology denies there, the target's shard by shard."""
+        return self.number in (REFRESH_OLD, REFRESH_NEW)
+
     def name(self, old: str, new: str) -> str:
         """What it does, with the words for the side that served and for the one that will."""
         if self.number == FREEZE and self.back:

@@ -22,9 +22,14 @@ def is_silent(line: str) -> bool:
     return line.startswith("#") or not line.strip(" \t")
 
 
+def is_refused(answer: str) -> bool:
+    """Whether a line was refused, so that it changed nothing."""
+    return answer.startswith("refused ")
+
+
 def is_refusal(answer: str) -> bool:
-    """Whether a line that was answered so changed nothing, or left a switch open that it was to take."""
-    return answer.startswith(("refused ", "abandoned ", "stopped "))
+    """Whether an answer names a refusal: of the line, or of a step that a whole switch gave itself up at, or stopped at."""
+    return is_refused(answer) or answer.startswith(("abandoned ", "stopped "))
 
 
 class Program:

@@ -3,9 +3,10 @@ from __future__ import annotations
 
 import os
 import re
-from collections.abc import Iterator, Mapping
+from collections.abc import Mapping
 from dataclasses import dataclass
 
+from mt_runs.pages import table_rows
 from mt_runs.program import REPOSITORY
 
 SCRIPT_PAGE = REPOSITORY / "docs/SCRIPT.md"
@@ -49,24 +50,12 @@ def read_script_page(path: str | os.PathLike[str] = SCRIPT_PAGE) -> ScriptPage:
     """What a page in the form of docs/SCRIPT.md says. Raises `OSError` if it can't be read, `ValueError` if it isn't UTF-8 or lacks one of the tables."""
     with open(path, encoding="utf-8") as file:
         text = file.read()
-    refusals = [Refusal(name.strip("`"), when, what) for name, when, what in _rows(text, REFUSALS_HEAD)]
+    refusals = [Refusal(name.strip("`"), when, what) for name, when, what in table_rows(text, REFUSALS_HEAD)]
     forms: dict[str, tuple[LineForm, ...]] = {}
-    for cell, meaning, answer in _rows(text, LINES_HEAD):
+    for cell, meaning, answer in table_rows(text, LINES_HEAD):
         form = cell.split("`")[1]
         word = form.split()[0]
         forms[word] = (*forms.get(word, ()), LineForm(form, meaning, answer))
     if not refusals or not forms:
         raise ValueError(f"{os.fspath(path)}: there is no table of {'lines' if refusals else 'refusals'}")
     return ScriptPage({it.name: it for it in refusals}, forms)
-
-
-def _rows(text: str, head: list[str]) -> Iterator[list[str]]:
-    """The rows of the first table with such a head, each as its cells."""
-    inside = False
-    for line in text.splitlines():
-        cells = [cell.strip() for cell in re.split(r"(?<!\\)\|", line)[1:-1]]
-        if inside and not cells:
-            return
-        if inside and len(cells) == len(head) and cells[0].startswith("`"):
-            yield cells
-        inside = inside or cells == head

@@ -1,0 +1,198 @@
+"""What is printed behind each line that is typed."""
+from __future__ import annotations
+
+import os
+import pathlib
+from collections.abc import Callable, Iterator, Sequence
+
+from mt_prompt.typed import TypedScript, running_streams
+from mt_runs.program import ProgramFailed, is_silent
+from mt_runs.refusals import ScriptPage
+from mt_runs.shards import first_key
+from mt_runs.show import TYPES
+from mt_runs.topology import Topology
+
+# The prompt's own lines, beside those of the language.
+OWN_LINES = {
+    "where": ("where NAME", "what the name reaches for each tablet type"),
+    "lag": ("lag W", "how far each stream of the workflow is behind"),
+    "advance": ("advance W", "a turn of each stream that runs, by the positions that show gives; advance W STREAM is one of that stream"),
+    "step": ("step W", "the next step, by the number that show gives"),
+    "undo": ("undo W", "the last step taken back, by the number that show gives"),
+    "back": ("back", "takes the last line away"),
+    "lines": ("lines", "prints the lines so far"),
+    "save": ("save FILE", "writes the lines so far to a file, as a script"),
+    "help": ("help [WORD]", "all lines; or those that begin with a word, or a refusal, as `help F9`"),
+    "quit": ("quit", "ends, and so does Ctrl-D"),
+}
+
+
+class Prompt:
+    """Answers lines: those of the language by the program, its own by questions to the program."""
+
+    def __init__(self, script: TypedScript, page: ScriptPage) -> None:
+        self.script, self.page = script, page
+        self.has_ended = False
+        # by the first word and the number of words
+        self._own: dict[tuple[str, int], Callable[[list[str]], Iterator[str]]] = {
+            ("where", 2): self._where,
+            ("lag", 2): self._lag,
+            ("back", 1): self._back,
+            ("lines", 1): self._lines,
+            ("save", 2): self._save,
+            ("quit", 1): self._quit,
+            ("exit", 1): self._quit,
+        }
+
+    def answer(self, line: str) -> Iterator[str]:
+        """What to print behind a line. A run that fails is told, and the line isn't kept."""
+        line = line.strip()
+        words = line.split()
+        own = self._own.get((words[0], len(words))) if words else None
+        try:
+            if is_silent(line):
+                self.script.lines += [line] if line else []
+            elif words[0] == "help":
+                yield from self._help(" ".join(words[1:]))
+            elif own:
+                yield from own(words)
+            else:
+                yield from self._of_language(line)
+        except ProgramFailed as error:
+            yield f"prompt: {error}"
+
+    def _of_language(self, line: str) -> Iterator[str]:
+        """The answer of the program, with the page's words on a refusal."""
+        for full in self.script.filled_in(line):
+            if full != line:
+                yield full
+            answer = self.script.take(full)
+            yield answer
+            yield from self._on_refusal(answer, full.split()[0])
+
+    def _on_refusal(self, answer: str, word: str) -> Iterator[str]:
+        refusal = self.page.refusal_of(answer)
+        if not refusal:
+            return
+        forms = [it.form for it in self.page.forms.get(word, ())]
+        if refusal.name == "X1 BadLine" and forms:
+            yield f"    form:  {'  or  '.join(forms)}"
+        elif refusal.name == "X1 BadLine":
+            yield f"    there is no line that begins with {word}: `help` lists them"
+            return
+        yield f"    when:  {refusal.when}"
+        yield f"    do:    {refusal.what_to_do}"
+
+    # ---- lines of the prompt
+
+    def _help(self, word: str) -> Iterator[str]:
+        """All lines; or more of those that begin with a word, or of a refusal."""
+        forms = {verb: them for verb, them in self.page.forms.items() if word in ("", verb)}
+        width = max((len(it.form) for them in forms.values() for it in them), default=0)
+        for it in (it for them in forms.values() for it in them):
+            yield f"  {it.form:{width}}  {it.meaning}"
+            yield from [f"  {'':{width}}  answered: {it.answer}"] if word else []
+        own = [it for verb, it in OWN_LINES.items() if word in ("", verb)]
+        yield from ["", "Of the prompt alone:"] if own and not word else []
+        yield from (f"  {form:{width}}  {meaning}" for form, meaning in own)
+        refusals = [it for it in self.page.refusals.values() if word and word in (it.name, *it.name.split())]
+        for refusal in refusals:
+            yield from (f"  {refusal.name}", f"    when:  {refusal.when}", f"    do:    {refusal.what_to_do}")
+        if not forms and not own and not refusals:
+            yield f"there is no line and no refusal {word}"
+
+    def _where(self, words: list[str]) -> Iterator[str]:
+        """Where a name leads for each tablet type, and whether a read there is answered, in each shard."""
+        name, _, asked = words[1].partition("@")
+        topology = self.script.topology()
+        for tablet_type in [asked] if asked else TYPES:
+            place = topology.led_to(name, tablet_type)
+            keys = _first_keys(topology, place)
+            answers = self.script.ask([f"get {name}@{tablet_type} {key}" for key in keys.values()])
+            yield f"{tablet_type:8} {place or 'nowhere'}   {_by_rule(topology, name, tablet_type)}   {_served(dict(zip(keys, answers)))}"
+
+    def _lag(self, words: list[str]) -> Iterator[str]:
+        move = self.script.move(words[1])
+        if not move:
+            yield from self._on_refusal_of(f"show {words[1]}")
+            return
+        for stream, entries, rows in self.script.lag(move):
+            copy = f", and {rows} rows to copy" if rows else ""
+            yield f"{stream}: {entries} entries to read{copy}"
+        if not running_streams(move):
+            yield "no stream runs"
+
+    def _on_refusal_of(self, line: str) -> Iterator[str]:
+        answer = self.script.ask([line])[0]
+        yield answer
+        yield from self._on_refusal(answer, line.split()[0])
+
+    def _back(self, words: list[str]) -> Iterator[str]:
+        line = self.script.take_back()
+        yield "there is no line" if line is None else f"taken away: {line}"
+
+    def _lines(self, words: list[str]) -> Iterator[str]:
+        yield from self.script.lines
+
+    def _save(self, words: list[str]) -> Iterator[str]:
+        lines = [f"# ./mt run {' '.join(self.script.watchers)}".rstrip(), *self.script.lines]
+        try:
+            pathlib.Path(words[1]).write_bytes(os.fsencode("".join(f"{it}\n" for it in lines)))
+            yield f"{len(self.script.lines)} lines"
+        except (OSError, ValueError) as error:
+            yield f"prompt: {words[1]}: {error.strerror if isinstance(error, OSError) else error}"
+
+    def _quit(self, words: list[str]) -> Iterator[str]:
+        self.has_ended = True
+        yield from ()
+
+
+def _first_keys(topology: Topology, place: str | None) -> dict[str, int]:
+    """A key of each shard of the keyspace of a place, or one if it isn't there."""
+    keyspace = topology.keyspaces.get((place or "").partition(".")[0])
+    return {shard: first_key(shard) for shard in (keyspace.shards if keyspace else ["-"])}
+
+
+def _by_rule(topology: Topology, name: str, tablet_type: str) -> str:
+    """What leads a name where it leads."""
+    rule = next((key for key in (f"{name}@{tablet_type}", name) if key in topology.rules), None)
+    return f"by the rule {rule}" if rule else "no rule"
+
+
+def _served(answers: dict[str, str]) -> str:
+    """Whether reads are answered; by shards if that differs."""
+    told: dict[str, list[str]] = {}
+    for shard, answer in answers.items():
+        told.setdefault(answer if answer.startswith("refused") else "answered", []).append(shard)
+    return next(iter(told)) if len(told) == 1 else "; ".join(f"{what}: {' '.join(shards)}" for what, shards in told.items())
+
+
+def completions(prompt: Prompt, before: Sequence[str], text: str) -> list[str]:
+    """The words that a text can go on to be, behind the words that stand before it on its line."""
+    if not before:
+        words = {*prompt.page.forms, *OWN_LINES}
+    else:
+        forms = [it.form.split() for it in prompt.page.forms.get(before[0], ())] + [OWN_LINES[it][0].split() for it in OWN_LINES if it == before[0]]
+        words = {word for form in forms if len(form) > len(before) for word in _candidates(prompt, form[len(before)])}
+    return sorted(it for it in words if it.startswith(text))
+
+
+def _candidates(prompt: Prompt, placeholder: str) -> set[str]:
+    """What may stand in a form in the place of such a word."""
+    topology = prompt.script.topology()
+    keyspaces = topology.keyspaces
+    tables = {table for it in keyspaces.values() for table in it.tables}
+    places = {f"{it.name}.{table}" for it in keyspaces.values() for table in it.tables}
+    workflows = {words[1] for words in map(str.split, prompt.script.lines) if words[:1] == ["create"]}
+    shards = {shard for it in keyspaces.values() for shard in it.shards}
+    found = {
+        **dict.fromkeys(("K", "S", "G"), set(keyspaces)),
+        **dict.fromkeys(("T", "TABLES"), tables),
+        **dict.fromkeys(("NAME", "KEY", "TARGET"), tables | places | set(topology.rules)),
+        "K.T": places,
+        "W": workflows,
+        "TYPES": {"all", *TYPES},
+        "STREAM": {f"{way}{'' if shard == '-' else '/' + shard}" for way in ("forward", "back") for shard in shards},
+        "[WORD]": {*prompt.page.forms, *OWN_LINES},
+    }
+    return found.get(placeholder, {placeholder} if placeholder.islower() else set())

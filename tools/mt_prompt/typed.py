@@ -1,0 +1,111 @@
+"""The script that is typed line by line, and what the program answers to each line of it."""
+from __future__ import annotations
+
+import os
+from collections.abc import Iterator, Sequence
+
+from mt_runs.program import MOST_WATCHERS, Program, ProgramFailed, is_refused
+from mt_runs.show import Move, parse_show, stream_word
+from mt_runs.topology import Topology, parse_dump
+
+UNREAD = ("refused X1 BadLine", "refused X2 LineTooLong")
+MOST_ROUNDS = 100  # of turns, to find how far a stream lags
+
+
+class TypedScript:
+    """The lines so far: those that weren't refused, and comments. Raises `ProgramFailed` where a run fails; nothing is kept of that line.
+
+    The keyspaces named have a watcher; where none is named each one that the script makes has.
+    """
+
+    def __init__(self, program: str | os.PathLike[str], keyspaces: Sequence[str]) -> None:
+        self.program = Program(program, keyspaces)
+        self.keyspaces = tuple(keyspaces)
+        self.lines: list[str] = []
+        self.program.answers([])  # it is there, and takes these words
+
+    @property
+    def watchers(self) -> tuple[str, ...]:
+        """The keyspaces that have a watcher."""
+        made = (line.split() for line in self.lines)
+        return self.keyspaces or tuple(words[1] for words in made if words[:1] == ["keyspace"])[:MOST_WATCHERS]
+
+    def ask(self, lines: Sequence[str]) -> list[str]:
+        """The answers to lines behind those so far. Nothing stays."""
+        self.program.watchers = self.watchers
+        return self.program.ask(self.lines, lines)
+
+    def take(self, line: str) -> str:
+        """The answer to a line, which is kept unless it is refused. A comment behind it, which the language has none of, is left out."""
+        read = line
+        for read in _without_comment(line):
+            answer = self.ask([read])[0]
+            if answer not in UNREAD:
+                break
+        if not is_refused(answer):
+            self.lines.append(read)
+        return answer
+
+    def take_back(self) -> str | None:
+        """Takes the last line away; None if there is none."""
+        return self.lines.pop() if self.lines else None
+
+    def topology(self) -> Topology:
+        """The topology now."""
+        return parse_dump(self.ask(["dump"])[0])
+
+    def move(self, workflow: str) -> Move | None:
+        """How a workflow stands; None if none of that name is live, or it is no name."""
+        answer = self.ask([f"show {workflow}"])[0]
+        return None if is_refused(answer) else parse_show(answer)
+
+    def filled_in(self, line: str) -> list[str]:
+        """The lines that a short one stands for: of `advance W` and `advance W STREAM`, `step W` and `undo W` with the numbers that `show` gives.
+
+        `advance W` is a turn of each stream that runs. Any other line stands for itself.
+        """
+        words = line.split()
+        move = self.move(words[1]) if words[0] in ("advance", "step", "undo") and len(words) in (2, 3) else None
+        if move and words[0] == "advance":
+            turns = [f"advance {move.name} {stream} {position} 100" for stream, position in running_streams(move) if stream in words[2:] or len(words) == 2]
+            return turns or [line]
+        return [f"{words[0]} {move.name} {move.way.done}"] if move and move.way and len(words) == 2 else [line]
+
+    def lag(self, move: Move) -> Iterator[tuple[str, int, int]]:
+        """Of each stream that runs how many entries it has still to read, and how many rows then to copy: by turns in runs of their own."""
+        for stream, position in running_streams(move):
+            turns: list[str] = []
+            entries = rows = 0
+            for _ in range(MOST_ROUNDS):
+                turns.append(f"advance {move.name} {stream} {position + entries} 65535")
+                read, copied = _done(self.ask(turns)[-1])
+                if not read + copied:
+                    break
+                entries, rows = entries + read, rows + copied
+            yield stream, entries, rows
+
+
+def running_streams(move: Move) -> list[tuple[str, int]]:
+    """The streams that run, as lines name them, with their positions."""
+    streams = [(way, shard, it) for way, them in (("forward", move.forward), ("back", move.back)) for shard, it in them.items()]
+    return [(stream_word(way, shard), it.position) for way, shard, it in streams if it.is_running]
+
+
+def _done(answer: str) -> tuple[int, int]:
+    """How many entries a turn read, and how many rows it copied."""
+    words = answer.split()
+    if words[0] != "events":
+        raise ProgramFailed(f"mt answers `{answer}` to a turn of a stream")
+    return int(words[1]), int(words[3])
+
+
+def _without_comment(line: str) -> Iterator[str]:
+    """A line as it stands, and then without what may be a comment: from a word on that begins with `#`, the last one first.
+
+    `#` may begin a value too. So the longest of them that the language reads is the line.
+    """
+    yield line
+    words = line.split()
+    for at in range(len(words) - 1, 0, -1):
+        if words[at].startswith("#"):
+            yield " ".join(words[:at])

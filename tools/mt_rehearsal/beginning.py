@@ -1,0 +1,177 @@
+"""The first lines of the script: the cluster as its documents tell of it, and a sample row for each shard of each table that moves."""
+from __future__ import annotations
+
+from collections.abc import Iterator, Mapping, Sequence
+from dataclasses import dataclass
+
+from mt_runs.program import MOST_WATCHERS, is_refused
+from mt_runs.refusals import ScriptPage
+from mt_runs.shards import first_key, is_range
+from mt_rehearsal.cluster import Cluster, Keyspace
+from mt_rehearsal.commands import CREATE, WORD, Command
+from mt_rehearsal.documents import CannotRehearse
+from mt_rehearsal.moved import Moved
+from mt_rehearsal.report import Report
+from mt_rehearsal.session import Session
+
+MOST_SHARDS, MOST_TABLES = 8, 256
+
+
+@dataclass(frozen=True)
+class Line:
+    """The words of a line, and what in the documents it stands for. One on which nothing depends may fail: what it stands for is left out then."""
+
+    words: tuple[str, ...]
+    what: str
+    may_fail: bool = False
+
+    @property
+    def text(self) -> str:
+        return " ".join(self.words)
+
+    @property
+    def is_readable(self) -> bool:
+        """Whether each of its words is one to the program."""
+        return all(map(WORD.fullmatch, self.words))
+
+
+class Beginning:
+    """What of a cluster is rehearsed: the keyspaces of the plan and those that rules lead to first, and of the others as many as there is room for."""
+
+    def __init__(self, cluster: Cluster, plan: Sequence[Command], report: Report) -> None:
+        self.cluster, self.report = cluster, report
+        self.creates = [it for it in plan if it.is_rehearsed and it.action == CREATE]
+        self.keyspaces = self._chosen()
+        self.shards = {it.name: self._shards(it) for it in self.keyspaces}
+        self.moves = {it.number: self._moved(it) for it in self.creates}
+
+    def build(self, session: Session, page: ScriptPage) -> None:
+        """Takes the lines; raises `CannotRehearse` if the program refuses one that something depends on."""
+        lines = [*self._keyspace_lines(), *self._rule_lines(), *self._row_lines()]
+        for line in filter(lambda it: not it.is_readable, lines):
+            self._refuse(line, "a name has something else than visible ASCII characters, of which mt's are made")
+        lines = [it for it in lines if it.is_readable]
+        for line, answer in zip(lines, session.take([it.text for it in lines])):
+            if is_refused(answer):
+                refusal = page.refusal_of(answer)
+                self._refuse(line, f"`{line.text}` is answered `{answer}`{': ' + refusal.when if refusal else ''}")
+
+    def _refuse(self, line: Line, why: str) -> None:
+        """Leaves out what a line stands for if nothing depends on it, or else raises `CannotRehearse`."""
+        if not line.may_fail:
+            raise CannotRehearse(f"{line.what}: {why}")
+        self.report.warn("left out", f"{line.what} is left out: {why}")
+
+    def _chosen(self) -> list[Keyspace]:
+        """The keyspaces that are rehearsed, in the order in which the plan and the rules name them."""
+        there, sides = self.cluster.keyspaces, [side for it in self.creates for side in (it.source, it.target)]
+        for command in self.creates:
+            missing = next((side for side in (command.source, command.target) if side not in there or not there[side].is_told), None)
+            if missing:
+                raise CannotRehearse(f"plan.txt: line {command.line}: no document tells of the keyspace {missing} ({missing}.vschema.json, {missing}.shards.json)")
+        led_to = [target.partition(".")[0] for rule in self.cluster.rules for target in rule.targets]
+        for name in dict.fromkeys(it for it in led_to if it not in there):
+            self.report.warn("document", f"no document tells of the keyspace {name}, to which a rule leads: it is taken as not there")
+        order = [name for name in dict.fromkeys([*sides, *led_to, *there]) if name in there and there[name].is_told]
+        if len(order) > MOST_WATCHERS:
+            self.report.warn("left out", f"keyspaces are left out, as mt has room for {MOST_WATCHERS}: {', '.join(order[MOST_WATCHERS:])}")
+        return [there[name] for name in order[:MOST_WATCHERS]]
+
+    def _shards(self, keyspace: Keyspace) -> dict[str, str]:
+        """The key ranges of a keyspace as they are rehearsed, in their order, each with its name in Vitess."""
+        name, shards = keyspace.name, keyspace.shards
+        if shards is None:
+            if keyspace.is_sharded or keyspace.is_sharded is None:
+                raise CannotRehearse(f"{name}.shards.json is missing, and {'the VSchema says that it is sharded' if keyspace.is_sharded else 'there is no VSchema'}")
+            return {"-": "-"}
+        bad = next((it for it in shards if not is_range(it.keys)), None)
+        if bad:
+            raise CannotRehearse(f"{name}.shards.json: {bad.name} is no key range that mt reads, 0 to 8 whole bytes on each side of a `-`")
+        if len(shards) > 1 and keyspace.is_sharded is False:
+            raise CannotRehearse(f"{name}.shards.json has {len(shards)} shards, and {name}.vschema.json says that it isn't sharded")
+        found = {it.keys: it.name for it in sorted(shards, key=lambda it: first_key(it.keys))}
+        return found if len(found) <= MOST_SHARDS else self._joined(name, found)
+
+    def _joined(self, name: str, found: Mapping[str, str]) -> dict[str, str]:
+        """So many neighbours each as one shard that there is room for all."""
+        ranges = list(found)
+        each = -(-len(ranges) // MOST_SHARDS)
+        groups = [ranges[at : at + each] for at in range(0, len(ranges), each)]
+        self.report.warn("shards", f"{name} has {len(ranges)} shards, and mt takes {MOST_SHARDS}: up to {each} neighbours are rehearsed as one, as all go through the same steps")
+        return {f"{it[0].partition('-')[0]}-{it[-1].partition('-')[2]}": it[0] if len(it) == 1 else f"{it[0]}..{it[-1]}" for it in groups}
+
+    def _moved(self, command: Command) -> Moved:
+        """What a `create` of the plan moves; raises `CannotRehearse` where the documents don't tell it, or it can't be represented."""
+        source, target = (next(it for it in self.keyspaces if it.name == name) for name in (command.source, command.target))
+        where = f"plan.txt: line {command.line}"
+        if len(self.shards[source.name]) > 1:
+            count = len(source.shards or ())
+            raise CannotRehearse(f"{where}: the source {source.name} has {count} shards, and mt moves tables out of a keyspace of one shard alone")
+        tables = tuple(self._tables(command, source))
+        for keyspace in (source, target):
+            self._see_denials(where, keyspace, tables)
+        shards = self.shards[target.name]
+        keys = {shard: first_key(shard) for shard in shards}
+        aliases = {it: self._aliases(it, source.name, target.name) for it in tables}
+        return Moved(command.workflow, source.name, target.name, tables, shards, keys, self.shards[source.name]["-"], aliases)
+
+    def _tables(self, command: Command, source: Keyspace) -> Iterator[str]:
+        """The tables of a `create`, each once."""
+        asked = source.tables if "all-tables" in command.flags else command.named("tables")
+        for table in dict.fromkeys(it for it in asked if it not in command.named("exclude-tables")):
+            if source.present is None and table not in (source.listed or ()):
+                told = f"{source.name}.vschema.json doesn't list {table}, and there is no {source.name}.schema.json (GetSchema) that says which tables are there"
+                raise CannotRehearse(f"plan.txt: line {command.line}: {told}")
+            yield table
+
+    def _see_denials(self, where: str, keyspace: Keyspace, tables: Sequence[str]) -> None:
+        """Raises `CannotRehearse` if a shard denies a table that moves; of others it is told that their denials are left out."""
+        for shard in keyspace.shards or ():
+            denied = {table for control in shard.controls for table in control.tables}
+            moved = sorted(denied & set(tables))
+            if moved:
+                told = f"{keyspace.name}.shards.json: {shard.name} denies {', '.join(moved)} already, which moves by {where}"
+                raise CannotRehearse(f"{told}. A move that is under way can't be represented, and neither can a denial by hand")
+
+    def _aliases(self, table: str, source: str, target: str) -> tuple[str, ...]:
+        """The names of hand-made rules that lead to a table at either side and aren't its own."""
+        sides = (f"{source}.{table}", f"{target}.{table}")
+        names = (rule.key.partition("@")[0] for rule in self.cluster.rules if set(rule.targets) & set(sides))
+        return tuple(dict.fromkeys(it for it in names if it not in (table, *sides)))
+
+    def _keyspace_lines(self) -> Iterator[Line]:
+        for keyspace in self.keyspaces:
+            name, shards = keyspace.name, ",".join(self.shards[keyspace.name])
+            yield Line(("keyspace", name) if shards == "-" else ("keyspace", name, shards), f"the keyspace {name}")
+            needed, others = self._tables_of(keyspace)
+            yield from (Line(("table", name, it), f"the table {name}.{it}", it in others) for it in (*needed, *others))
+
+    def _tables_of(self, keyspace: Keyspace) -> tuple[list[str], list[str]]:
+        """The tables of a keyspace on which the rehearsal depends, and the others as far as there is room. Those that a move is to make aren't there yet."""
+        made = {table for it in self.moves.values() if it.target == keyspace.name for table in it.tables}
+        moved = {table for it in self.moves.values() for table in it.tables}
+        tables = [it for it in keyspace.tables if keyspace.present is not None or it not in made]
+        needed, others = [it for it in tables if it in moved], [it for it in tables if it not in moved]
+        room = MOST_TABLES - len(needed) - len(made)
+        if len(others) > room:
+            self.report.warn("left out", f"{len(others) - room} tables of {keyspace.name} that don't move are left out, as mt has room for {MOST_TABLES}")
+        return needed, others[: max(room, 0)]
+
+    def _rule_lines(self) -> Iterator[Line]:
+        seen: set[str] = set()
+        for rule in self.cluster.rules:
+            if len(rule.targets) != 1:
+                raise CannotRehearse(f"{rule.place}: the rule of {rule.key} has {len(rule.targets) or 'no'} targets, and mt takes one")
+            if rule.key in seen:
+                raise CannotRehearse(f"{rule.place}: another rule has the key {rule.key} too")
+            if "." not in rule.targets[0]:
+                raise CannotRehearse(f"{rule.place}: the target {rule.targets[0]} of {rule.key} names no keyspace")
+            seen.add(rule.key)
+            yield Line(("rule", rule.key, rule.targets[0]), rule.place)
+
+    def _row_lines(self) -> Iterator[Line]:
+        """A row for each shard of the target of each table that moves and that is there."""
+        there = {it.name: it.tables for it in self.keyspaces}
+        rows = [(it.source, table, key) for it in self.moves.values() for table in it.tables if table in there[it.source] for key in it.keys.values()]
+        for source, table, key in dict.fromkeys(rows):
+            yield Line(("at", f"{source}.{table}", "insert", str(key), "sample"), f"a sample row of {source}.{table}")
