@@ -22,6 +22,7 @@ import { INK, RED, SIDES, SMALL, SOFT, RULE, cross, cut, dot, element, firstThat
 
 const PHASES = { none: "#eceff2", rest: "#e3edf8", way: "#fff3bf", switched: "#fbe6c9" };
 const WORDS_SIZE = 12;
+const LABEL_ROOM = 216;
 
 /** The pattern of what is refused. */
 export const REFUSED_FILL = "url(#refused)";
@@ -54,8 +55,7 @@ export function laneDrawn(panel, lane, top) {
     return element("g", said, lane.draw({ left, right, top, height: lane.height, value, marks }));
   });
   const marks = lane.marks.map((mark) => (mark.refused ? cross(mark.x, top + lane.height / 2, 4.5) : dot(mark.x, top + lane.height / 2, 4, mark.write)));
-  const room = panel.labels - 8;
-  const label = firstThatFits(lane.labels, room, WORDS_SIZE) ?? cut(lane.labels.at(-1), Math.floor(room / widthOf("n", WORDS_SIZE)));
+  const label = firstThatFits(lane.labels, LABEL_ROOM, WORDS_SIZE) ?? cut(lane.labels.at(-1), Math.floor(LABEL_ROOM / widthOf("n", WORDS_SIZE)));
   const name = words(panel.labels, top + lane.height / 2 + 4, label, { "text-anchor": "end" });
   return element("g", { class: "lane", "data-lane": `${panel.index} ${lane.name}` }, name, ...drawn, ...marks);
 }
@@ -105,8 +105,15 @@ export function nameLanes(panel, tables) {
   return Object.keys(TYPES).flatMap((type) => {
     const valuesOf = (shard) => panel.states.map((state) => state && serverOf(state.by_name[table][type][shard], table));
     const groups = shardsAlike(panel.move.shards, valuesOf, type !== "primary");
-    return groups.map((shards) => nameLane(panel, tables, type, shards, valuesOf(shards[0])));
+    return labelledAlike(groups.map((shards) => nameLane(panel, tables, type, shards, valuesOf(shards[0]))));
   });
+}
+
+/** Lanes with labels of one form, in which all of them have room. @param {Lane[]} lanes @returns {Lane[]} */
+function labelledAlike(lanes) {
+  const fitting = lanes.map(({ labels }) => labels.findIndex((label) => widthOf(label, WORDS_SIZE) <= LABEL_ROOM));
+  const form = fitting.includes(-1) ? -1 : Math.max(...fitting);
+  return lanes.map((lane) => ({ ...lane, labels: lane.labels.slice(form) }));
 }
 
 function nameLane(panel, tables, type, shards, values) {

@@ -12,6 +12,7 @@ const WIDTH = 1230; // so that a page of 1,280 has room for it
 const LEFT = 236;
 const SLANT = 58;
 const LABEL_SIZE = 11;
+const NUMBER_SIZE = 9.5;
 // how wide a column is by its kind: at least, and if there is room
 const WIDTHS = { several: [60, 66], quiet: [15, 19], whole: [38, 52], turn: [24, 34], one: [20, 30] };
 const STYLE = 'text{font-family:system-ui,"Segoe UI","DejaVu Sans",sans-serif}.column{fill:transparent}.column:hover{fill:#00000012}';
@@ -48,14 +49,21 @@ export function picture(facts) {
 
 /** Where the columns begin, and the last one ends. They fill the width, and go past it only if all are as narrow as can be. @param {Facts} facts */
 function columnEdges(facts) {
-  const kinds = facts.columns.map((column) => WIDTHS[kindOf(facts, column)]);
+  const kinds = facts.columns.map((column) => widthsOf(facts, column));
   const total = (which) => kinds.reduce((sum, kind) => sum + kind[which], 0);
   const [least, liked, room] = [total(0), total(1), WIDTH - LEFT - MARGIN];
-  const share = Math.min(Math.max((room - least) / (liked - least), 0), 1);
+  const share = Math.min(Math.max((room - least) / Math.max(liked - least, 1), 0), 1);
   const stretch = liked < room ? room / liked : 1;
   const edges = [LEFT];
   for (const [narrow, wide] of kinds) edges.push(edges.at(-1) + (narrow + (wide - narrow) * share) * stretch);
   return edges;
+}
+
+/** How wide a column is at least, which its numbers have room in, and if there is room. */
+function widthsOf(facts, column) {
+  const [narrow, wide] = WIDTHS[kindOf(facts, column)];
+  const least = Math.max(narrow, widthOf(numbersOf(column), NUMBER_SIZE, true) + 3);
+  return [least, Math.max(least, wide)];
 }
 
 function panelOf(facts, index, xs) {
@@ -97,7 +105,7 @@ function columnFoot(facts, column, label, middle, top) {
   const isQuiet = kindOf(facts, column) === "quiet";
   const colour = isRefused ? RED : isQuiet ? SOFT : INK;
   const mark = isRefused ? cross(middle, top + 8, 4) : "";
-  const number = words(middle, top + 27, numbersOf(column), { "font-size": 9.5, fill: colour, "text-anchor": "middle", "font-weight": 600 });
+  const number = words(middle, top + 27, numbersOf(column), { "font-size": NUMBER_SIZE, fill: colour, "text-anchor": "middle", "font-weight": 600 });
   const [x, y] = [middle + 3, top + 42];
   const slanted = { "font-size": LABEL_SIZE, fill: colour, "text-anchor": "end", "font-weight": isRefused ? 600 : null, transform: `rotate(-${SLANT} ${x.toFixed(1)} ${y.toFixed(1)})` };
   return mark + number + words(x, y, label, slanted);

@@ -1,7 +1,7 @@
 /** The steps of switches and reversals: how many stand done behind each column, and the journal, behind which none is undone. */
 
-import { refusalIn, wordsIn } from "./facts.mjs";
-import { GREEN, HALO, INK, RED, RULE, SMALL, SOFT, TEAL, cross, cut, element, line, rect, short, words } from "./svg.mjs";
+import { counted, refusalIn, wordsIn } from "./facts.mjs";
+import { GREEN, HALO, INK, RED, RULE, SMALL, SOFT, TEAL, cross, cut, element, firstThatFits, line, rect, short, words } from "./svg.mjs";
 
 const RUNG = 15;
 const STEPS = 12;
@@ -66,7 +66,7 @@ function climbs(panel, yOf) {
     const place = { left: panel.xs[column], right: panel.xs[column + 1], middle: (panel.xs[column] + panel.xs[column + 1]) / 2, yOf };
     if (way) return openColumn(panel, column, before, place);
     if (before !== null) return closedColumn(panel, column, before, place);
-    return state?.drive ? driveColumn(state.drive, panel.xs.at(-1), place) : "";
+    return state?.drive ? driveColumn(state.drive, place) : "";
   });
 }
 
@@ -78,16 +78,17 @@ function openColumn(panel, column, before, { left, right, middle, yOf }) {
   const climb = path([[left, yOf(from)], [left, yOf(level)], [right, yOf(level)]], colour);
   const start = before === null ? element("circle", { cx: left, cy: yOf(from), r: 3.5, fill: INK }) : "";
   const refused = isRefusedStep(panel, column) ? cross(middle, yOf(level), 5) : "";
-  return climb + start + shardWords(panel.move, way, level > from, left, yOf(level)) + refused;
+  return climb + start + shardWords(panel.move, way, level > from, { left, right }, yOf(level)) + refused;
 }
 
-/** Which shard the last step was done for, if it is one of several. */
-function shardWords(move, way, isHigher, left, y) {
+/** Which shard the last step was done for, if it is one of several: its range, or where that has no room the how manieth it is. */
+function shardWords(move, way, isHigher, { left, right }, y) {
   const step = way.steps[way.done - 1];
   const alike = way.steps.filter((it) => it === step).length;
   if (!isHigher || alike < 2) return "";
-  const shard = move.shards[way.done - 1 - way.steps.indexOf(step)];
-  return words(left + 4, y - 3, cut(shard, 11), { "font-size": 9, ...HALO });
+  const place = way.done - 1 - way.steps.indexOf(step);
+  const text = firstThatFits([move.shards[place], `${place + 1}/${alike}`], right - left - 3, 9) ?? "";
+  return words(left + 4, y - 3, text, { "font-size": 9, ...HALO });
 }
 
 /** A way that its line closed: with its last step, or with its last undo. */
@@ -100,29 +101,23 @@ function closedColumn(panel, column, before, { left, middle, yOf }) {
   return climb + element("circle", { cx: middle, cy: yOf(end), r: 4.5, fill: isUndone ? TEAL : GREEN, stroke: "#ffffff", "stroke-width": 1.2 });
 }
 
-/** A switch or a reversal in one line. */
-function driveColumn(drive, edge, place) {
-  return drive.undone ? abandonedDrive(drive, edge, place) : wholeDrive(drive, edge, place);
-}
-
-function wholeDrive({ steps, direction }, edge, { middle, yOf }) {
-  const [foot, head] = [yOf(levelOf(steps, 0)), yOf(levelOf(steps, steps.length))];
-  const arrow = `M${short(middle - 6)} ${short(head + 10)}L${short(middle)} ${short(head)}L${short(middle + 6)} ${short(head + 10)}Z`;
-  const text = steps.length > 1 ? `all ${steps.length}${direction === "back" ? " back" : ""}, in one line` : `1 step${direction === "back" ? " back" : ""}`;
-  return line(middle, foot, middle, Math.min(head + 8, foot), INK, 4) + element("path", { d: arrow, fill: INK }) + besideDrive(text, middle, foot - 5, edge, INK);
-}
-
-function abandonedDrive({ steps, done }, edge, { middle, yOf }) {
+/** A switch or a reversal in one line: an arrow over its steps, or up to where it gave itself up and back. */
+function driveColumn({ steps, done, direction, undone }, { middle, yOf }) {
   const [foot, head] = [yOf(levelOf(steps, 0)), yOf(levelOf(steps, done))];
-  const lines = line(middle - 3, foot, middle - 3, head, INK, 2.4) + line(middle + 3, foot, middle + 3, head, TEAL, 2.4);
-  const text = `${done} step${done === 1 ? "" : "s"}, then undone by itself`;
-  return lines + cross(middle, head - 4, 5) + besideDrive(text, middle, head - 14, edge, TEAL);
+  const back = direction === "back" ? " back" : "";
+  if (undone) {
+    const lines = line(middle - 3, foot, middle - 3, head, INK, 2.4) + line(middle + 3, foot, middle + 3, head, TEAL, 2.4);
+    return lines + cross(middle, head - 4, 5) + upright(`${counted(done, "step")}${back}, then undone by itself`, middle - 9, foot - 3, TEAL);
+  }
+  const arrow = `M${short(middle - 6)} ${short(head + 10)}L${short(middle)} ${short(head)}L${short(middle + 6)} ${short(head + 10)}Z`;
+  const shaft = line(middle, foot, middle, Math.min(head + 8, foot), INK, 4) + element("path", { d: arrow, fill: INK });
+  if (steps.length > 1) return shaft + upright(`all ${steps.length} steps${back}, in one line`, middle - 7, foot - 3, INK);
+  return shaft + words(middle, head - 4, back ? "1 back" : "1 step", { "font-size": SMALL, "text-anchor": "middle", ...HALO });
 }
 
-/** Words beside a mark, on its left where they would pass the edge. */
-function besideDrive(text, middle, y, edge, colour) {
-  const isLeft = middle + 150 > edge;
-  return words(isLeft ? middle - 9 : middle + 9, y, text, { "font-size": SMALL, fill: colour, "text-anchor": isLeft ? "end" : "start", ...HALO });
+/** Words that run upwards. */
+function upright(text, x, y, colour) {
+  return words(x, y, text, { "font-size": SMALL, fill: colour, transform: `rotate(-90 ${short(x)} ${short(y)})`, ...HALO });
 }
 
 /** Whether a column is a step or an undo of the move that was refused, or a whole switch that stopped. */

@@ -13,7 +13,7 @@ from mt_picture.facts import Column, DriveFacts, Facts, Line, MoveFacts, Query, 
 from mt_picture.script import Script, words_of
 from mt_picture.ways import DRIVES, Part, Trial, drive_facts, part_of, step_names, try_back, way_facts
 from mt_runs.plan import JOURNAL
-from mt_runs.program import Program, is_refusal
+from mt_runs.program import Program, is_refusal, is_refused
 from mt_runs.refusals import ScriptPage
 from mt_runs.show import Move
 from mt_runs.topology import Topology, parse_dump
@@ -55,7 +55,7 @@ class Gathering:
         place = column.start
         line, answer = self.script.lines[place], self.answers[place]
         words = words_of(line)
-        if words[0] not in DRIVES or words[1:2] != [move.workflow] or not move.lives(place) or answer.startswith("refused "):
+        if words[0] not in DRIVES or words[1:2] != [move.workflow] or not move.lives(place) or is_refused(answer):
             return None
         return drive_facts(self.program, self.script.lines[:place], line, answer, move.shards)
 
@@ -81,7 +81,8 @@ def gather(program: Program, script: Script, page: ScriptPage) -> Facts:
     histories = [History(gathering, behind, place) for place in range(len(moves))]
     columns = [_column(gathering, histories, place) for place in range(len(behind))]
     lines = [Line(script.shown(place), answer, script.notes.get(place)) for place, answer in enumerate(answers)]
-    return Facts(script.title, script.watchers, lines, _words(answers, page), [it.move_facts() for it in histories], columns)
+    title = script.title or f"{moves[0].workflow} moves {', '.join(moves[0].tables)} from {moves[0].source} to {moves[0].target}"
+    return Facts(title, script.watchers, lines, _words(answers, page), [it.move_facts() for it in histories], columns)
 
 
 def _column(gathering: Gathering, histories: Sequence[History], place: int) -> Column:

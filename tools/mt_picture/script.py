@@ -14,7 +14,7 @@ BLANKS = re.compile(r"[ \t]+")
 
 @dataclass(frozen=True)
 class Script:
-    """The lines that are answered, as they are sent; the comment in front of some, by the place of its line; the title; the words behind `mt run`."""
+    """The lines that are answered, as they are sent; the comment in front of some, by the place of its line; the title, which may be empty; the words behind `mt run`."""
 
     lines: tuple[str, ...]
     notes: dict[int, str]
@@ -43,9 +43,9 @@ def read_script(path: pathlib.Path, keyspaces: Sequence[str] = ()) -> Script:
     """
     text = path.read_bytes().decode("utf-8", "surrogateescape")
     lines, notes = _lines_and_notes(text)
-    title = shown_text(notes[0].pop(0)) if notes.get(0) else path.stem.replace("_", " ")
+    title = shown_text(notes[0].pop(0)).rstrip(".") if notes.get(0) else ""
     told = {place: shown_text(" ".join(paragraphs)) for place, paragraphs in notes.items() if paragraphs}
-    return Script(tuple(lines), told, title.rstrip("."), tuple(keyspaces) or _watchers(text, lines))
+    return Script(tuple(lines), told, title, tuple(keyspaces) or _watchers(text, lines))
 
 
 def _lines_and_notes(text: str) -> tuple[list[str], dict[int, list[str]]]:
