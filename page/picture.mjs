@@ -97,7 +97,7 @@ function footDrawn(facts, xs, top) {
   const longest = Math.max(...labels.map((label) => widthOf(label, LABEL_SIZE)));
   const below = top + 44 + longest * Math.sin((SLANT * Math.PI) / 180);
   const refused = refusalsDrawn(facts, xs.at(-1), below + 12);
-  return { svg: columns.join("") + refused.svg, bottom: refused.bottom };
+  return { svg: element("g", { class: "foot" }, ...columns) + refused.svg, bottom: refused.bottom };
 }
 
 function columnFoot(facts, column, label, middle, top) {

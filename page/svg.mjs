@@ -65,15 +65,16 @@ export const HALO = { "paint-order": "stroke", stroke: "#ffffff", "stroke-width"
 
 /** The mark of what was refused. */
 export function cross(x, y, reach) {
-  const path = `M${short(x - reach)} ${short(y - reach)}L${short(x + reach)} ${short(y + reach)}M${short(x - reach)} ${short(y + reach)}L${short(x + reach)} ${short(y - reach)}`;
+  const [left, right, above, below] = [x - reach, x + reach, y - reach, y + reach].map(short);
+  const path = `M${left} ${above}L${right} ${below}M${left} ${below}L${right} ${above}`;
   const stroke = (colour, width) => element("path", { d: path, stroke: colour, "stroke-width": width, "stroke-linecap": "round", fill: "none" });
-  return stroke("#ffffff", 4.8) + stroke(RED, 2.6);
+  return element("g", { class: "refused" }, stroke("#ffffff", 4.8), stroke(RED, 2.6));
 }
 
 /** The mark of a client's line that was answered: filled for a write, hollow for a read. */
 export function dot(x, y, reach, isWrite) {
   const [fill, stroke] = isWrite ? [INK, "#ffffff"] : ["#ffffff", INK];
-  return element("circle", { cx: x, cy: y, r: reach, fill, stroke, "stroke-width": 1.6 });
+  return element("circle", { class: isWrite ? "write" : "read", cx: x, cy: y, r: reach, fill, stroke, "stroke-width": 1.6 });
 }
 
 /** How wide a text is at most, in fonts that are common. */

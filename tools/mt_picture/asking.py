@@ -6,7 +6,7 @@ from collections.abc import Mapping, Sequence
 from dataclasses import dataclass
 from typing import NamedTuple, Optional
 
-from mt_picture.columns import Begun
+from mt_picture.moves import Begun
 from mt_picture.facts import StreamFacts
 from mt_runs.program import Program, ProgramFailed, is_refusal
 from mt_runs.shards import first_key
@@ -76,7 +76,8 @@ def served(read: Read, answer: str, topology: Topology) -> str:
 def streams_behind(program: Program, before: Sequence[str], move: Move) -> list[StreamFacts]:
     """The streams of a move, in one run; of each that runs what one turn would read and copy. Raises `ProgramFailed`, as a run does.
 
-    No turn of one stream of a move is seen by another that runs: those of a way read different logs, or write in different ones, and those of both never run at once.
+    No turn of one stream of a move is seen by another that runs: those of one direction read one log, or each its own, and write in others; and streams of both
+    directions never run at once.
     """
     streams = [("forward", it, stream) for it, stream in move.forward.items()] + [("back", it, stream) for it, stream in move.back.items()]
     turns = [f"advance {move.name} {stream_word(way, shard)} {stream.position} {MOST_AT_ONCE}" for way, shard, stream in streams if stream.is_running]

@@ -4,24 +4,16 @@ from __future__ import annotations
 from collections import Counter
 from collections.abc import Iterable
 from dataclasses import dataclass
-from typing import Optional, Protocol
+from typing import Optional
 
 from mt_picture.facts import Query
+from mt_picture.moves import Begun
 from mt_picture.script import words_of
 from mt_runs.shards import shard_of
 
 WRITES = ("insert", "update", "append", "delete")
 VERBS = (*WRITES, "get")
 KEYS = 1 << 64
-
-
-class Side(Protocol):
-    """What of a move decides where a line stands."""
-
-    source: str
-    target: str
-    tables: tuple[str, ...]
-    shards: tuple[str, ...]
 
 
 @dataclass(frozen=True)
@@ -55,7 +47,7 @@ def read_client_line(line: str) -> Optional[ClientLine]:
     return ClientLine(words[0] in WRITES, keyspace if dot else None, table if dot else name, tablet_type or "primary", int(words[2]), past_rules)
 
 
-def queries_of(lines: Iterable[tuple[str, bool]], move: Side, live: bool) -> list[Query]:
+def queries_of(lines: Iterable[tuple[str, bool]], move: Begun, live: bool) -> list[Query]:
     """The lines of clients among some, each with whether it was refused, that ask for a move's tables; those that ask alike are counted together.
 
     Of one that has ended only the bare names of its tables are its own.
@@ -65,7 +57,7 @@ def queries_of(lines: Iterable[tuple[str, bool]], move: Side, live: bool) -> lis
     return [Query(*place, count) for place, count in places.items()]
 
 
-def _asks_for(line: ClientLine, move: Side, live: bool) -> bool:
+def _asks_for(line: ClientLine, move: Begun, live: bool) -> bool:
     if line.table not in move.tables:
         return False
     if line.past_rules:
@@ -73,7 +65,7 @@ def _asks_for(line: ClientLine, move: Side, live: bool) -> bool:
     return line.keyspace is None or (live and line.keyspace in (move.source, move.target))
 
 
-def _place(line: ClientLine, move: Side, refused: bool) -> tuple[str, str, str, Optional[str], bool, bool]:
+def _place(line: ClientLine, move: Begun, refused: bool) -> tuple[str, str, str, Optional[str], bool, bool]:
     at_source = line.past_rules and line.keyspace == move.source
     shard = "-" if at_source else shard_of(move.shards, line.key)
     return line.table, line.type, shard, line.keyspace if line.past_rules else None, line.write, refused

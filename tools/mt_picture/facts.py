@@ -74,7 +74,8 @@ class StreamFacts:
 
 @dataclass(frozen=True)
 class WayBack:
-    """The way back that was tried in a run of its own: its lines up to the first that was refused, and before which line the move's part of the topology was the same."""
+    """The way back that was tried in a run of its own: its lines up to the first that was refused, with their answers; and the number of the line before which the
+    move had the same of the topology, None if it had another or a line was refused."""
 
     lines: Sequence[str]
     answers: Sequence[str]

@@ -8,8 +8,9 @@ from typing import Optional
 
 from mt_picture.asking import Looked, Read, look, served, streams_behind
 from mt_picture.clients import queries_of
-from mt_picture.columns import Begun, CannotDraw, folded, moves_begun, refusal_name
+from mt_picture.columns import CannotDraw, folded, refusal_name
 from mt_picture.facts import Column, DriveFacts, Facts, Line, MoveFacts, Query, Served, State, StreamFacts, WayBack
+from mt_picture.moves import Begun, moves_begun
 from mt_picture.script import Script, words_of
 from mt_picture.ways import DRIVES, Part, Trial, drive_facts, part_of, step_names, try_back, way_facts
 from mt_runs.plan import JOURNAL
@@ -23,7 +24,7 @@ AT_ONCE = 4  # runs
 
 @dataclass(frozen=True)
 class Behind:
-    """What was asked behind a column: what stands there, and of each move that lives its streams, its way back, and the switch in one line that the column is."""
+    """What was asked behind a column: what stands there; of each move that lives its streams and its way back; and the switch in one line that the column is."""
 
     looked: Looked
     streams: Sequence[Sequence[StreamFacts]]

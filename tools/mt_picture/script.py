@@ -14,7 +14,8 @@ BLANKS = re.compile(r"[ \t]+")
 
 @dataclass(frozen=True)
 class Script:
-    """The lines that are answered, as they are sent; the comment in front of some, by the place of its line; the title, which may be empty; the words behind `mt run`."""
+    """The lines that are answered, as they are sent; the comment in front of some, by the place of its line; the title, empty if no comment gives one; and the
+    words behind `mt run`."""
 
     lines: tuple[str, ...]
     notes: dict[int, str]

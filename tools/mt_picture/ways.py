@@ -5,7 +5,7 @@ from collections.abc import Sequence
 from dataclasses import dataclass
 
 from mt_picture.asking import turn_of
-from mt_picture.columns import Begun
+from mt_picture.moves import Begun
 from mt_picture.facts import DriveFacts, WayFacts
 from mt_picture.script import words_of
 from mt_runs.plan import NAMES, PlannedStep, planned_steps
