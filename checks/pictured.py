@@ -5,7 +5,7 @@ import definitions
 from ranges import bound_value, ranges_of, shard_of, stream_in
 
 TYPES = definitions.TYPES
-WATCHERS = ["commerce", "customer", "archive"]
+WATCHERS = ["customer", "archive", "commerce"]
 MOST_AT_ONCE = 65535
 ODD_LINES = {"hello <world> & 'you' \"there\"": "refused X1 BadLine", "insert corder x y": "refused X1 BadLine", "get <corder> 1": "refused N3 BadByte"}
 SHARDS = ["-", "-80,80-", "-40,40-80,80-"]
@@ -130,11 +130,17 @@ class RandomScript(Told):
     """A script of a move and what goes on meanwhile, drawn so that most lines are answered."""
 
     def __init__(self, seed, length):
-        super().__init__(WATCHERS)
         self.random = random.Random(seed)
+        # without a watcher of commerce's primary a whole switch gives itself up
+        self.watchers = WATCHERS[: self.random.choice([2, 3, 3])]
+        super().__init__(self.watchers)
         shards = self.random.choice(SHARDS)
         for line in self.opening(shards):
             self.ask(line)
+        for line in self.random.choice([[], [], [], ["begin-switch mv all"], ["switch mv all"], ["switch mv all", "begin-reverse mv all"]]):
+            self.ask(line)
+        if live_of(self.state, "mv").way:
+            self.take_steps()
         for _ in range(length):
             self.ask(self.next_line())
 
@@ -146,6 +152,13 @@ class RandomScript(Told):
         yield f"create mv commerce customer {self.random.choice(['corder', 'corder', 'corder,cart'])}"
         if self.random.random() < 0.8:
             yield from [self.turn(live_of(self.state, "mv"), "forward", shard) for shard in range(shards.count(",") + 1)]
+
+    def take_steps(self):
+        """Some steps of the way that is open, past its journal in some scripts."""
+        for _ in range(self.random.choice([1, 3, 4, 8, 10])):
+            w = live_of(self.state, "mv")
+            if w.way:
+                self.ask(f"step mv {w.way.done}")
 
     def key(self):
         return self.random.choice([0, 1, 2, 1 << 62, (1 << 63) + 1, (1 << 64) - 1])
@@ -184,7 +197,7 @@ class RandomScript(Told):
         if not w:
             return self.other_line()
         if w.way and self.random.random() < 0.85:
-            return f"{'undo' if w.way.undoing or self.random.random() < 0.15 else 'step'} {w.name} {w.way.done + (self.random.random() < 0.05)}"
+            return f"{'undo' if w.way.undoing or self.random.random() < 0.25 else 'step'} {w.name} {w.way.done + (self.random.random() < 0.05)}"
         verb = self.random.choice(["begin-reverse", "reverse"] if w.switched and self.random.random() < 0.7 else ["begin-switch", "switch"])
         return f"{verb} {w.name} {self.random.choice(['all', 'all', 'primary', 'replica', 'replica,rdonly', 'primary,rdonly'])}"
 

@@ -55,7 +55,7 @@ export function laneDrawn(panel, lane, top) {
     return element("g", said, lane.draw({ left, right, top, height: lane.height, value, marks }));
   });
   const marks = lane.marks.map((mark) => (mark.refused ? cross(mark.x, top + lane.height / 2, 4.5) : dot(mark.x, top + lane.height / 2, 4, mark.write)));
-  const label = firstThatFits(lane.labels, LABEL_ROOM, WORDS_SIZE) ?? cut(lane.labels.at(-1), Math.floor(LABEL_ROOM / widthOf("n", WORDS_SIZE)));
+  const label = firstThatFits(lane.labels, LABEL_ROOM, WORDS_SIZE) ?? cut(lane.labels.at(-1), 29);
   const name = words(panel.labels, top + lane.height / 2 + 4, label, { "text-anchor": "end" });
   return element("g", { class: "lane", "data-lane": `${panel.index} ${lane.name}` }, name, ...drawn, ...marks);
 }
@@ -152,9 +152,9 @@ function servedBar(move, bar) {
   const { left, right, top, height, value } = bar;
   if (value.startsWith("refused ")) return refusedBar(bar, "refused");
   const { strong, words: colour } = SIDES[sideOf(move, value.split(".")[0])];
-  const at = clearOfMarks(bar, widthOf(value, WORDS_SIZE, true));
-  const said = at === null ? "" : words(at, top + height / 2 + 4, value, { fill: colour, "font-weight": 600 });
-  return rect(left, top, right - left, height, strong) + said;
+  const text = [value, cut(value, 20), cut(value, 9)].find((it) => clearOfMarks(bar, widthOf(it, WORDS_SIZE, true)) !== null) ?? "";
+  const at = clearOfMarks(bar, widthOf(text, WORDS_SIZE, true)) ?? left;
+  return rect(left, top, right - left, height, strong) + words(at, top + height / 2 + 4, text, { fill: colour, "font-weight": 600 });
 }
 
 function refusedBar(bar, word) {

@@ -40,10 +40,10 @@ function primariesOf(state, table) {
 /** What moves, from where to where. @param {Panel} panel @returns {Part} */
 function titled({ move }) {
   const side = (keyspace, what, { strong }) =>
-    element("tspan", { fill: strong, dx: 18, "font-size": 17 }, "■") + element("tspan", { dx: 5, "font-weight": 600 }, escaped(`${cut(keyspace, 40)} (${what})`));
+    element("tspan", { fill: strong, dx: 18, "font-size": 17 }, "■") + element("tspan", { dx: 5, "font-weight": 600 }, escaped(`${cut(keyspace, 30)} (${what})`));
   const target = move.shards.length > 1 ? `target, ${move.shards.length} shards` : "target";
-  const name = element("tspan", { "font-size": 17, "font-weight": 700 }, escaped(cut(move.workflow, 40)));
-  const tables = escaped(` moves ${cut(move.tables.join(", "), 60)}`);
+  const name = element("tspan", { "font-size": 17, "font-weight": 700 }, escaped(cut(move.workflow, 24)));
+  const tables = escaped(` moves ${cut(move.tables.join(", "), 44)}`);
   const sides = side(move.source, "source", SIDES.source) + side(move.target, target, SIDES.target);
   return (top) => ({ svg: element("text", { x: MARGIN, y: top + 20, "font-size": 13, fill: INK }, name, tables, sides), bottom: top + 34 });
 }
