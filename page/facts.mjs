@@ -4,7 +4,8 @@
  * @typedef {{text: string, answer: string, note: string | null}} Line
  * @typedef {{direction: "forward" | "back", types: string[], steps: number[], done: number, undoing: boolean}} Way
  * @typedef {{direction: "forward" | "back", types: string[], steps: number[], done: number, undone: boolean}} Drive
- * @typedef {{direction: "forward" | "back", shard: string, state: string, position: number, copied: boolean | null, behind: number | null, rows: number | null}} Stream
+ * @typedef {{direction: "forward" | "back", shard: string, state: string, position: number, copied: boolean | null, behind: number | null,
+ *            rows: number | null}} Stream
  * @typedef {{lines: string[], answers: string[], as_before: number | null}} WayBack
  * @typedef {{table: string, type: string, shard: string, at: string | null, write: boolean, refused: boolean, count: number}} Query
  * @typedef {Record<string, Record<string, Record<string, string>>>} Served
@@ -17,7 +18,10 @@
  *            moves: Move[], columns: Column[]}} Facts
  */
 
-/** The types of tablets, with what clients ask of each. */
+/**
+ * The types of tablets, with what clients ask of each.
+ * @type {Record<string, string>}
+ */
 export const TYPES = { primary: "writes, primary reads", replica: "reads of replica", rdonly: "reads of rdonly" };
 
 /**
@@ -27,40 +31,60 @@ export const TYPES = { primary: "writes, primary reads", replica: "reads of repl
  * @returns {{from: number, to: number, value: T}[]}
  */
 export function stretches(values) {
+  /** @type {{from: number, to: number, value: T}[]} */
   const found = [];
   values.forEach((value, column) => {
-    const last = found.at(-1);
+    const last = found[found.length - 1];
     if (last && JSON.stringify(last.value) === JSON.stringify(value)) last.to = column;
     else found.push({ from: column, to: column, value });
   });
   return found;
 }
 
-/** The name of the refusal that an answer tells, as `F3 Denied`; null if it tells none. @param {string} answer */
+/**
+ * The name of the refusal that an answer tells, as `F3 Denied`; null if it tells none.
+ * @param {string} answer
+ */
 export function refusalIn(answer) {
   const found = /^(?:refused|abandoned|stopped) ([A-Z]\d+ \w+)/.exec(answer);
   return found ? found[1] : null;
 }
 
-/** The words of a line. @param {string} text */
+/**
+ * The words of a line.
+ * @param {string} text
+ */
 export function wordsIn(text) {
   return text.split(/[ \t]+/).filter((word) => word !== "");
 }
 
-/** The lines of a column. @param {Facts} facts @param {Column} column @returns {Line[]} */
+/**
+ * The lines of a column.
+ * @param {Facts} facts
+ * @param {Column} column
+ * @returns {Line[]}
+ */
 export function linesOf(facts, column) {
   return facts.lines.slice(column.first - 1, column.last);
 }
 
-/** The numbers of a column's lines, as `6` or `1-5`. @param {Column} column */
+/**
+ * The numbers of a column's lines, as `6` or `1-5`.
+ * @param {Column} column
+ */
 export function numbersOf(column) {
   return column.first === column.last ? `${column.first}` : `${column.first}-${column.last}`;
 }
 
-/** The refusals of a column's lines, each once. @param {Facts} facts @param {Column} column @returns {string[]} */
+/**
+ * The refusals of a column's lines, each once.
+ * @param {Facts} facts
+ * @param {Column} column
+ * @returns {string[]}
+ */
 export function refusalsOf(facts, column) {
-  const names = linesOf(facts, column).map((line) => refusalIn(line.answer));
-  return [...new Set(names.filter((name) => name !== null))];
+  const names = linesOf(facts, column).map((line) => refusalIn(line.answer) ?? "");
+  return [...new Set(names.filter((name) => name !== ""))];
 }
 
 /**
@@ -77,10 +101,15 @@ export function serverOf(value, table) {
  * @param {string[]} shards
  */
 export function rangeOf(shards) {
-  return `${shards[0].split("-")[0]}-${shards.at(-1).split("-")[1]}`;
+  return `${shards[0].split("-")[0]}-${shards[shards.length - 1].split("-")[1]}`;
 }
 
-/** One, or several of a thing. @param {number} count @param {string} one @param {string} [several] */
+/**
+ * One, or several of a thing.
+ * @param {number} count
+ * @param {string} one
+ * @param {string} [several]
+ */
 export function counted(count, one, several = `${one}s`) {
   return `${count.toLocaleString("en")} ${count === 1 ? one : several}`;
 }

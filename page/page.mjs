@@ -1,9 +1,17 @@
 /** What a page with the facts inside shows: the picture, and the same in words. */
 
-import { accountTable, linesTable } from "./tables.mjs";
 import { picture } from "./picture.mjs";
+import { accountTable, linesTable } from "./tables.mjs";
 
-const facts = JSON.parse(document.getElementById("facts").textContent);
-document.getElementById("picture").innerHTML = picture(facts);
-document.getElementById("account").innerHTML = accountTable(facts);
-document.getElementById("lines").innerHTML = linesTable(facts);
+/**
+ * The element of a name; there is one, by page.html.
+ * @param {string} name
+ */
+function named(name) {
+  return /** @type {HTMLElement} */ (document.getElementById(name));
+}
+
+const told = JSON.parse(named("facts").textContent ?? "");
+named("picture").innerHTML = picture(told);
+named("account").innerHTML = accountTable(told);
+named("lines").innerHTML = linesTable(told);

@@ -7,8 +7,14 @@ const RUNG = 15;
 const STEPS = 12;
 
 /** @typedef {import("./lanes.mjs").Panel} Panel */
+/** @typedef {import("./facts.mjs").Way} Way */
+/** @typedef {(level: number) => number} YOf */
+/** @typedef {{left: number, right: number, middle: number, yOf: YOf}} Place */
 
-/** Whether any way is opened on the move. @param {Panel} panel */
+/**
+ * Whether any way is opened on the move.
+ * @param {Panel} panel
+ */
 export function hasSteps(panel) {
   return panel.states.some((state) => state && (state.way || state.drive));
 }
@@ -22,22 +28,30 @@ export const STEPS_HEIGHT = STEPS * RUNG + 12;
  * @param {number} top
  */
 export function stepsDrawn(panel, top) {
+  /** @type {YOf} */
   const yOf = (level) => top + 8 + (STEPS - level) * RUNG;
   return element("g", { class: "steps" }, ground(panel, yOf), ...climbs(panel, yOf), journalWords(panel, yOf));
 }
 
+/**
+ * The twelve steps by their names, and the journal between them.
+ * @param {Panel} panel
+ * @param {YOf} yOf
+ */
 function ground({ move, xs, labels }, yOf) {
-  const right = xs.at(-1);
-  const behind = rect(xs[0], yOf(STEPS) - 4, right - xs[0], yOf(move.journal) - yOf(STEPS) + 4, "#fdf3f2");
+  const [left, right] = [xs[0], xs[xs.length - 1]];
+  const behind = rect(left, yOf(STEPS) - 4, right - left, yOf(move.journal) - yOf(STEPS) + 4, "#fdf3f2");
   const rungs = move.steps.map((name, number) => {
     const isJournal = number === move.journal;
-    const more = { "font-size": SMALL, fill: isJournal ? RED : SOFT, "text-anchor": "end", "font-weight": isJournal ? 700 : null };
-    return words(labels, yOf(number + 1) + RUNG / 2 + 4, cut(isJournal ? name.toUpperCase() : name, 38), more) + line(xs[0], yOf(number + 1), right, yOf(number + 1), "#eceff2");
+    const looks = { "font-size": SMALL, fill: isJournal ? RED : SOFT, "text-anchor": "end", "font-weight": isJournal ? 700 : null };
+    const y = yOf(number + 1);
+    return words(labels, y + RUNG / 2 + 4, cut(isJournal ? name.toUpperCase() : name, 38), looks) + line(left, y, right, y, "#eceff2");
   });
-  const foot = line(xs[0], yOf(0), right, yOf(0), RULE);
-  return behind + rungs.join("") + foot + line(xs[0], yOf(move.journal), right, yOf(move.journal), RED, 1.6, { "stroke-dasharray": "6 4" });
+  const journal = line(left, yOf(move.journal), right, yOf(move.journal), RED, 1.6, { "stroke-dasharray": "6 4" });
+  return behind + rungs.join("") + line(left, yOf(0), right, yOf(0), RULE) + journal;
 }
 
+/** @param {Panel} panel @param {YOf} yOf */
 function journalWords({ move, xs }, yOf) {
   const more = { "font-size": SMALL, "font-weight": 600, ...HALO };
   const after = words(xs[0] + 6, yOf(move.journal) - 5, "after the journal: only forward", { ...more, fill: RED });
@@ -56,44 +70,71 @@ export function levelOf(steps, done) {
   return step + (done - first) / steps.filter((it) => it === step).length;
 }
 
-/** The marks of all columns, each drawn from where the one before it stands. @param {Panel} panel @returns {string[]} */
+/**
+ * The marks of all columns, each drawn from where the one before it stands.
+ * @param {Panel} panel
+ * @param {YOf} yOf
+ * @returns {string[]}
+ */
 function climbs(panel, yOf) {
+  /** @type {number | null} */
   let level = null;
   return panel.states.map((state, column) => {
     const before = level;
+    const [left, right] = [panel.xs[column], panel.xs[column + 1]];
+    const place = { left, right, middle: (left + right) / 2, yOf };
     const way = state?.way ?? null;
     level = way && levelOf(way.steps, way.done);
-    const place = { left: panel.xs[column], right: panel.xs[column + 1], middle: (panel.xs[column] + panel.xs[column + 1]) / 2, yOf };
-    if (way) return openColumn(panel, column, before, place);
+    if (way) return openColumn(panel, column, way, before, place);
     if (before !== null) return closedColumn(panel, column, before, place);
     return state?.drive ? driveColumn(state.drive, place) : "";
   });
 }
 
-function openColumn(panel, column, before, { left, right, middle, yOf }) {
-  const { way } = panel.states[column];
+/**
+ * A way that is open.
+ * @param {Panel} panel
+ * @param {number} column
+ * @param {Way} way
+ * @param {number | null} before
+ * @param {Place} place
+ */
+function openColumn(panel, column, way, before, place) {
+  const { left, right, middle, yOf } = place;
   const level = levelOf(way.steps, way.done);
   const from = before ?? levelOf(way.steps, 0);
-  const colour = way.undoing ? TEAL : INK;
-  const climb = path([[left, yOf(from)], [left, yOf(level)], [right, yOf(level)]], colour);
+  const climb = path([[left, yOf(from)], [left, yOf(level)], [right, yOf(level)]], way.undoing ? TEAL : INK);
   const start = before === null ? element("circle", { cx: left, cy: yOf(from), r: 3.5, fill: INK }) : "";
+  const shard = level > from ? shardWords(panel.move, way, place, yOf(level)) : "";
   const refused = isRefusedStep(panel, column) ? cross(middle, yOf(level), 5) : "";
-  return climb + start + shardWords(panel.move, way, level > from, { left, right }, yOf(level)) + refused;
+  return climb + start + shard + refused;
 }
 
-/** Which shard the last step was done for, if it is one of several: its range, or where that has no room the how manieth it is. */
-function shardWords(move, way, isHigher, { left, right }, y) {
+/**
+ * Which shard the last step was done for, if it is one of several: its range, or its number where that has no room.
+ * @param {import("./facts.mjs").Move} move
+ * @param {Way} way
+ * @param {Place} place
+ * @param {number} y
+ */
+function shardWords(move, way, { left, right }, y) {
   const step = way.steps[way.done - 1];
   const alike = way.steps.filter((it) => it === step).length;
-  if (!isHigher || alike < 2) return "";
-  const place = way.done - 1 - way.steps.indexOf(step);
-  const text = firstThatFits([move.shards[place], `${place + 1}/${alike}`], right - left - 3, 9) ?? "";
+  if (alike < 2) return "";
+  const number = way.done - 1 - way.steps.indexOf(step);
+  const text = firstThatFits([move.shards[number], `${number + 1}/${alike}`], right - left - 3, 9) ?? "";
   return words(left + 4, y - 3, text, { "font-size": 9, ...HALO });
 }
 
-/** A way that its line closed: with its last step, or with its last undo. */
+/**
+ * A way that its line closed: with its last step, or with its last undo.
+ * @param {Panel} panel
+ * @param {number} column
+ * @param {number} before
+ * @param {Place} place
+ */
 function closedColumn(panel, column, before, { left, middle, yOf }) {
-  const { steps } = panel.states[column - 1].way;
+  const steps = panel.states[column - 1]?.way?.steps ?? [];
   const [verb] = wordsIn(panel.facts.lines[panel.facts.columns[column].first - 1].text);
   const isUndone = verb === "undo";
   const end = levelOf(steps, isUndone ? 0 : steps.length);
@@ -101,7 +142,11 @@ function closedColumn(panel, column, before, { left, middle, yOf }) {
   return climb + element("circle", { cx: middle, cy: yOf(end), r: 4.5, fill: isUndone ? TEAL : GREEN, stroke: "#ffffff", "stroke-width": 1.2 });
 }
 
-/** A switch or a reversal in one line: an arrow over its steps, or up to where it gave itself up and back. */
+/**
+ * A switch or a reversal in one line: an arrow over its steps, or up to where it gave itself up and back.
+ * @param {import("./facts.mjs").Drive} drive
+ * @param {Place} place
+ */
 function driveColumn({ steps, done, direction, undone }, { middle, yOf }) {
   const [foot, head] = [yOf(levelOf(steps, 0)), yOf(levelOf(steps, done))];
   const back = direction === "back" ? " back" : "";
@@ -115,18 +160,29 @@ function driveColumn({ steps, done, direction, undone }, { middle, yOf }) {
   return shaft + words(middle, head - 4, back ? "1 back" : "1 step", { "font-size": SMALL, "text-anchor": "middle", ...HALO });
 }
 
-/** Words that run upwards. */
+/**
+ * Words that run upwards.
+ * @param {string} text
+ * @param {number} x
+ * @param {number} y
+ * @param {string} colour
+ */
 function upright(text, x, y, colour) {
   return words(x, y, text, { "font-size": SMALL, fill: colour, transform: `rotate(-90 ${short(x)} ${short(y)})`, ...HALO });
 }
 
-/** Whether a column is a step or an undo of the move that was refused, or a whole switch that stopped. */
+/**
+ * Whether a column is a step or an undo of the move that was refused, or a whole switch that stopped.
+ * @param {Panel} panel
+ * @param {number} column
+ */
 function isRefusedStep({ facts, move }, column) {
   const { text, answer } = facts.lines[facts.columns[column].first - 1];
   const [verb, workflow] = wordsIn(text);
   return ["step", "undo", "switch", "reverse"].includes(verb) && workflow === move.workflow && refusalIn(answer) !== null;
 }
 
+/** @param {number[][]} points @param {string} colour */
 function path(points, colour) {
   return element("polyline", { points: points.map(([x, y]) => `${short(x)},${short(y)}`).join(" "), fill: "none", stroke: colour, "stroke-width": 2.4 });
 }

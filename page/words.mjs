@@ -3,14 +3,23 @@
 import { TYPES, counted, linesOf, numbersOf, refusalIn, refusalsOf, stretches, wordsIn } from "./facts.mjs";
 import { BROWN, GREEN, RED, SOFT, TEAL, cut } from "./svg.mjs";
 
+/** @typedef {import("./facts.mjs").Facts} Facts */
+/** @typedef {import("./facts.mjs").Column} Column */
+/** @typedef {import("./facts.mjs").Move} Move */
+/** @typedef {import("./facts.mjs").State} State */
+
 const CLIENT_VERBS = ["insert", "update", "append", "delete", "get"];
+const WORKFLOW_VERBS = ["step", "undo", "switch", "reverse", "begin-switch", "begin-reverse", "advance"];
+/** @type {Record<string, string>} */
 const ENDS = { cancel: "cancelled", complete: "completed" };
+/** @type {Record<string, string>} */
+const COLOURS_BACK = { cancel: GREEN, undo: TEAL, reverse: BROWN };
 
 /**
  * The phase of a move behind a column, in words from long to short.
- * @param {import("./facts.mjs").Facts} facts
- * @param {import("./facts.mjs").Move} move
- * @param {import("./facts.mjs").State | null} state
+ * @param {Facts} facts
+ * @param {Move} move
+ * @param {State | null} state
  * @returns {{kind: string, texts: string[]}}
  */
 export function phaseOf(facts, move, state) {
@@ -23,31 +32,37 @@ export function phaseOf(facts, move, state) {
   return { kind: "switched", texts: [`switched${types}`, "switched"] };
 }
 
+/** @param {import("./facts.mjs").Way} way */
 function wayTexts(way) {
   if (way.undoing) return ["undoing"];
   return way.direction === "back" ? ["switching back"] : ["switching over"];
 }
 
-/** How a move ended: by which line. */
+/**
+ * How a move ended: by which line.
+ * @param {Facts} facts
+ * @param {Move} move
+ */
 function endOf(facts, move) {
-  return ENDS[wordsIn(facts.lines[move.ended - 1].text)[0]];
+  return move.ended === null ? "" : ENDS[wordsIn(facts.lines[move.ended - 1].text)[0]];
 }
 
 /**
  * The way back that was tried behind a column, in words from long to short, with its colour.
- * @param {import("./facts.mjs").State} state
+ * @param {State} state
  * @returns {{colour: string, texts: string[]}}
  */
 export function wayBackOf(state) {
   const tried = state.way_back;
   if (!tried) return { colour: SOFT, texts: ["the move has ended", "ended"] };
   const verb = wordsIn(tried.lines[0])[0];
-  const refusal = refusalIn(tried.answers.at(-1));
+  const [answer] = tried.answers.slice(-1);
+  const refusal = refusalIn(answer);
   if (refusal === "F19 PastJournal") return { colour: RED, texts: ["none: finish the steps, then go back", "none: finish the steps", "none"] };
-  if (refusal) return { colour: RED, texts: [`${verb} is answered ${tried.answers.at(-1)}`, `${verb}: ${refusal}`, "refused"] };
+  if (refusal) return { colour: RED, texts: [`${verb} is answered ${answer}`, `${verb}: ${refusal}`, "refused"] };
   if (tried.as_before === null) return { colour: RED, texts: [`${verb}: not as before`] };
-  const where = { cancel: "create", undo: state.way?.direction === "back" ? "the reversal" : "the switch", reverse: "the switch" }[verb];
-  return { colour: { cancel: GREEN, undo: TEAL, reverse: BROWN }[verb], texts: [`${verb}: as before ${where}`, verb] };
+  const where = verb === "cancel" ? "create" : state.way?.direction === "back" ? "the reversal" : "the switch";
+  return { colour: COLOURS_BACK[verb], texts: [`${verb}: as before ${where}`, verb] };
 }
 
 /**
@@ -62,7 +77,11 @@ export function streamTexts(stream) {
   return [`at ${position}${copy}`, `at ${position}`, `${position}`];
 }
 
-/** What stands below a column, in few words. @param {import("./facts.mjs").Facts} facts @param {import("./facts.mjs").Column} column */
+/**
+ * What stands below a column, in few words.
+ * @param {Facts} facts
+ * @param {Column} column
+ */
 export function labelOf(facts, column) {
   const lines = linesOf(facts, column);
   const isSetUp = column.first === 1 && column.moves.every((state) => state === null);
@@ -72,21 +91,39 @@ export function labelOf(facts, column) {
   return refused.length ? `${cut(text, 34)}  ${refused.join(", ")}` : cut(text, 40);
 }
 
+/**
+ * A line in few words.
+ * @param {string} text
+ */
 function lineLabel(text) {
   const words = wordsIn(text);
   const [verb] = words;
-  if (["step", "undo", "switch", "reverse", "begin-switch", "begin-reverse", "advance"].includes(verb) && words.length > 2) return `${verb} ${words[2]}`;
+  if (WORKFLOW_VERBS.includes(verb) && words.length > 2) return `${verb} ${words[2]}`;
   if (["create", "cancel", "complete", "show"].includes(verb)) return verb;
   if (CLIENT_VERBS.includes(verb) && words.length > 2) return `${verb} ${words[1]} ${shortKey(words[2])}`;
-  if (verb === "at" && words.length > 3) return `${words[2]} ${shortKey(words[3])} at ${words[1].split(".")[0]}${words[1].includes("@") ? `@${words[1].split("@")[1]}` : ""}`;
+  if (verb === "at" && words.length > 3) return `${words[2]} ${shortKey(words[3])} at ${withoutTable(words[1])}`;
   return words.join(" ");
 }
 
+/**
+ * A name without its table, as `commerce@replica`.
+ * @param {string} name
+ */
+function withoutTable(name) {
+  return name.replace(/\.[^@]*/, "");
+}
+
+/** @param {string} key */
 function shortKey(key) {
   return key.length < 8 ? key : `${key.slice(0, 2)}..${key.slice(-3)}`;
 }
 
-/** What kind of line stands in a column: it decides how wide it is. @returns {"several" | "quiet" | "whole" | "turn" | "one"} */
+/**
+ * What kind of line stands in a column: it decides how wide it is.
+ * @param {Facts} facts
+ * @param {Column} column
+ * @returns {"several" | "quiet" | "whole" | "turn" | "one"}
+ */
 export function kindOf(facts, column) {
   if (column.first !== column.last) return "several";
   const { text, answer } = facts.lines[column.first - 1];
@@ -98,19 +135,29 @@ export function kindOf(facts, column) {
   return asks && !isRefused ? "quiet" : "one";
 }
 
-/** A refusal in words: when a line is refused so, and what to do. */
+/**
+ * A refusal in words: when a line is refused so, and what to do.
+ * @param {Facts} facts
+ * @param {string} name
+ */
 export function refusalWords(facts, name) {
   const told = facts.refusals[name];
   return told ? `${told.when}. What to do: ${told.what_to_do}` : "docs/SCRIPT.md has it";
 }
 
-/** A move in a sentence. @param {import("./facts.mjs").Move} move */
+/**
+ * A move in a sentence.
+ * @param {Move} move
+ */
 export function moveSentence(move) {
   const shards = move.shards.length > 1 ? `, which has ${move.shards.length} shards` : "";
   return `${move.workflow} moves ${move.tables.join(", ")} from ${move.source} to ${move.target}${shards}.`;
 }
 
-/** The whole picture for those who can't see it: the moves, their phases by lines, and what was refused. @param {import("./facts.mjs").Facts} facts */
+/**
+ * The whole picture for those who can't see it: the moves, their phases by lines, and what was refused.
+ * @param {Facts} facts
+ */
 export function descriptionOf(facts) {
   const sentences = facts.moves.flatMap((move, index) => [moveSentence(move), phasesSentence(facts, move, index)]);
   const refused = facts.columns.filter((column) => refusalsOf(facts, column).length);
@@ -118,6 +165,7 @@ export function descriptionOf(facts) {
   return [...sentences, told.length ? `Refused lines: ${told.join("; ")}.` : "No line is refused."].join(" ");
 }
 
+/** @param {Facts} facts @param {Move} move @param {number} index */
 function phasesSentence(facts, move, index) {
   const phases = facts.columns.map((column) => phaseOf(facts, move, column.moves[index]).texts[0]);
   const told = stretches(phases).map(({ from, to, value }) => `lines ${facts.columns[from].first} to ${facts.columns[to].last} ${value}`);
