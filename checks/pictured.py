@@ -2,7 +2,7 @@
 import random
 
 import definitions
-from ranges import bound_value, ranges_of, shard_of, stream_in
+from ranges import bound_value, ranges_of, stream_in
 
 TYPES = definitions.TYPES
 WATCHERS = ["customer", "archive", "commerce"]
@@ -55,8 +55,10 @@ def by_name(state, move):
 
 
 def primaries(state, move):
-    sides = {move["source"]: {"-": 0}, move["target"]: first_keys(move["shards"])}
-    return {side: {table: {shard: at_primary(state, side, table, key) for shard, key in keys.items()} for table in move["tables"]} for side, keys in sides.items()}
+    def at(side, keys):
+        return {table: {shard: at_primary(state, side, table, key) for shard, key in keys.items()} for table in move["tables"]}
+
+    return {move["source"]: at(move["source"], {"-": 0}), move["target"]: at(move["target"], first_keys(move["shards"]))}
 
 
 def streams(state, w):

@@ -74,9 +74,8 @@ export function phaseLane(panel) {
 
 /** @param {Bar} bar */
 function phaseBar({ left, right, top, height, value }) {
-  const room = right - left - 6;
-  const large = firstThatFits(value.texts, room, LANE_WORDS, true);
-  const text = large ?? firstThatFits(value.texts, room, SMALL - 0.5) ?? "";
+  const large = firstThatFits(value.texts, right - left - 6, LANE_WORDS, true);
+  const text = large ?? firstThatFits(value.texts, right - left - 3, SMALL - 0.5) ?? "";
   const looks = { "font-size": large ? LANE_WORDS : SMALL - 0.5, "font-weight": large ? 600 : null };
   const x = Math.min((left + right) / 2, left + 300); // seen in a long picture too
   return rect(left, top, right - left - 1, height, PHASES[value.kind], { rx: 3 }) + words(x, top + height / 2 + 4, text, { "text-anchor": "middle", ...looks });

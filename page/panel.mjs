@@ -43,8 +43,8 @@ export function panelDrawn(panel, top) {
  */
 function titled({ move }) {
   const [workflow, tables] = [cut(move.workflow, 40), ` moves ${cut(move.tables.join(", "), 80)}`];
-  const target = `${move.target} (target${move.shards.length > 1 ? `, ${move.shards.length} shards` : ""})`;
-  const sides = [sideNamed(`${move.source} (source)`, SIDES.source.strong), sideNamed(target, SIDES.target.strong)];
+  const target = `${cut(move.target, 50)} (target${move.shards.length > 1 ? `, ${move.shards.length} shards` : ""})`;
+  const sides = [sideNamed(`${cut(move.source, 50)} (source)`, SIDES.source.strong), sideNamed(target, SIDES.target.strong)];
   const title = [element("tspan", { "font-size": 17, "font-weight": 700 }, escaped(workflow)), escaped(tables)];
   const looks = { x: MARGIN, "font-size": 13, fill: INK };
   const isLong = widthOf(workflow, 17, true) + widthOf(tables + move.source + target, 13, true) > LONGEST_TITLE;

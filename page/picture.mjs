@@ -16,7 +16,7 @@ const SLANT = 58;
 const LABEL_SIZE = 11;
 const NUMBER_SIZE = 9.5;
 // how wide a column is by its kind: at least, and if there is room
-const WIDTHS = { several: [60, 66], quiet: [15, 19], whole: [38, 52], turn: [24, 34], one: [20, 30] };
+const WIDTHS = { several: [60, 66], quiet: [15, 19], whole: [46, 54], turn: [24, 34], one: [20, 30] };
 const STYLE = 'text{font-family:system-ui,"Segoe UI","DejaVu Sans",sans-serif}.column{fill:transparent}.column:hover{fill:#00000012}';
 const CAPTION = "Time runs from left to right. Each column is a line of the script, named at its foot, and shows what stands behind that line.";
 

@@ -4,7 +4,7 @@ from __future__ import annotations
 import re
 from collections.abc import Mapping, Sequence
 from dataclasses import dataclass
-from typing import NamedTuple, Optional
+from typing import NamedTuple
 
 from mt_picture.moves import Begun
 from mt_picture.facts import StreamFacts
@@ -38,7 +38,7 @@ class Looked:
     """What stands behind a line: the topology; what `show` says of each move, None if it doesn't live; and the answers to the reads of each that has begun."""
 
     topology: Topology
-    shown: Sequence[Optional[Move]]
+    shown: Sequence[Move | None]
     reads: Sequence[Mapping[Read, str]]
 
 

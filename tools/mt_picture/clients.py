@@ -4,7 +4,6 @@ from __future__ import annotations
 from collections import Counter
 from collections.abc import Iterable
 from dataclasses import dataclass
-from typing import Optional
 
 from mt_picture.facts import Query
 from mt_picture.moves import Begun
@@ -21,7 +20,7 @@ class ClientLine:
     """A line for a row: whether it writes, the parts of its name, its key, and whether it passes the rules by (`at`)."""
 
     write: bool
-    keyspace: Optional[str]
+    keyspace: str | None
     table: str
     type: str
     key: int
@@ -34,7 +33,7 @@ def is_client_line(line: str) -> bool:
     return words[0] in VERBS or (words[0] == "at" and len(words) > 2 and words[2] in VERBS)
 
 
-def read_client_line(line: str) -> Optional[ClientLine]:
+def read_client_line(line: str) -> ClientLine | None:
     """A line for a row that has the form of one; None for every other. Its names aren't tested."""
     words = words_of(line)
     past_rules = words[0] == "at" and len(words) > 2
@@ -65,7 +64,7 @@ def _asks_for(line: ClientLine, move: Begun, live: bool) -> bool:
     return line.keyspace is None or (live and line.keyspace in (move.source, move.target))
 
 
-def _place(line: ClientLine, move: Begun, refused: bool) -> tuple[str, str, str, Optional[str], bool, bool]:
+def _place(line: ClientLine, move: Begun, refused: bool) -> tuple[str, str, str, str | None, bool, bool]:
     at_source = line.past_rules and line.keyspace == move.source
     shard = "-" if at_source else shard_of(move.shards, line.key)
     return line.table, line.type, shard, line.keyspace if line.past_rules else None, line.write, refused

@@ -2,7 +2,6 @@
 from __future__ import annotations
 
 from collections.abc import Iterator, Sequence
-from typing import Optional
 
 from mt_picture.clients import is_client_line
 from mt_picture.script import Script, words_of
@@ -16,7 +15,7 @@ class CannotDraw(Exception):
     """There is no picture of this script; the text says why."""
 
 
-def refusal_name(answer: str) -> Optional[str]:
+def refusal_name(answer: str) -> str | None:
     """The name of the refusal that an answer tells, as `F3 Denied`."""
     found = REFUSED.match(answer)
     return found[1] if found else None

@@ -4,7 +4,6 @@ from __future__ import annotations
 import json
 from collections.abc import Mapping, Sequence
 from dataclasses import asdict, dataclass
-from typing import Optional
 
 VERSION = 1
 Served = Mapping[str, Mapping[str, Mapping[str, str]]]
@@ -16,7 +15,7 @@ class Line:
 
     text: str
     answer: str
-    note: Optional[str]
+    note: str | None
 
 
 @dataclass(frozen=True)
@@ -32,7 +31,7 @@ class MoveFacts:
     tables: Sequence[str]
     shards: Sequence[str]
     created: int
-    ended: Optional[int]
+    ended: int | None
     steps: Sequence[str]
     journal: int
 
@@ -61,25 +60,27 @@ class DriveFacts:
 
 @dataclass(frozen=True)
 class StreamFacts:
-    """A stream; of one that runs how many entries it would read, and how many rows it would copy if there is nothing to read."""
+    """A stream; of one that runs how many entries it would read, and how many rows it would copy if there are none."""
 
     direction: str
     shard: str
     state: str
     position: int
-    copied: Optional[bool]
-    behind: Optional[int]
-    rows: Optional[int]
+    copied: bool | None
+    behind: int | None
+    rows: int | None
 
 
 @dataclass(frozen=True)
 class WayBack:
-    """The way back that was tried in a run of its own: its lines up to the first that was refused, with their answers; and the number of the line before which the
-    move had the same of the topology, None if it had another or a line was refused."""
+    """The way back that was tried in a run of its own: its lines up to the first that was refused, with their answers.
+
+    `as_before` is the number of the line before which the move had the same of the topology; None if it had another, or a line was refused.
+    """
 
     lines: Sequence[str]
     answers: Sequence[str]
-    as_before: Optional[int]
+    as_before: int | None
 
 
 @dataclass(frozen=True)
@@ -89,7 +90,7 @@ class Query:
     table: str
     type: str
     shard: str
-    at: Optional[str]
+    at: str | None
     write: bool
     refused: bool
     count: int
@@ -101,12 +102,12 @@ class State:
 
     live: bool
     switched: Sequence[str]
-    way: Optional[WayFacts]
-    drive: Optional[DriveFacts]
+    way: WayFacts | None
+    drive: DriveFacts | None
     streams: Sequence[StreamFacts]
     by_name: Served
     primaries: Served
-    way_back: Optional[WayBack]
+    way_back: WayBack | None
     queries: Sequence[Query]
 
 
@@ -116,7 +117,7 @@ class Column:
 
     first: int
     last: int
-    moves: Sequence[Optional[State]]
+    moves: Sequence[State | None]
 
 
 @dataclass(frozen=True)

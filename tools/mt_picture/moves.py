@@ -3,7 +3,6 @@ from __future__ import annotations
 
 from collections.abc import Sequence
 from dataclasses import dataclass
-from typing import Optional
 
 from mt_picture.script import Script, words_of
 from mt_runs.show import TYPES
@@ -20,7 +19,7 @@ class Begun:
     tables: tuple[str, ...]
     shards: tuple[str, ...]
     created: int
-    ended: Optional[int]
+    ended: int | None
 
     def stands(self, place: int) -> bool:
         """Whether it has begun by then."""

@@ -4,9 +4,8 @@ from __future__ import annotations
 from collections.abc import Sequence
 from dataclasses import dataclass
 
-from mt_picture.asking import turn_of
-from mt_picture.moves import Begun
 from mt_picture.facts import DriveFacts, WayFacts
+from mt_picture.moves import Begun
 from mt_picture.script import words_of
 from mt_runs.plan import NAMES, PlannedStep, planned_steps
 from mt_runs.program import Program, ProgramFailed, is_refusal
@@ -14,7 +13,8 @@ from mt_runs.show import Move, Way, parse_show, stream_word
 from mt_runs.topology import Topology, parse_dump
 
 DRIVES = ("switch", "reverse")
-ENTRIES_AT_ONCE = 100  # that a drive lets a stream read before it tries a step again
+MOST_TRIES = 64  # of a step by a drive, which lets a stream read so many entries between:
+ENTRIES_AT_ONCE = 100
 NOT_LEVEL = "refused F18 NotLevel"
 
 
@@ -87,41 +87,34 @@ def drive_facts(program: Program, before: Sequence[str], line: str, answer: str,
     """
     verb, workflow, *types = words_of(line)
     begun = [*before, " ".join([f"begin-{verb}", workflow, *types])]
-    _, way = _open_way(program, begun, workflow)
+    way = parse_show(program.ask(begun, [f"show {workflow}"])[0]).way
+    if way is None:
+        raise ProgramFailed(f"behind {begun[-1]} no way of {workflow} is open")
     steps = step_numbers(way, shards)
     outcome = answer.split(" ")[0]
     done = len(steps)
     if outcome == "stopped":
         done = int(answer.split(" ")[-1])
     elif outcome == "abandoned":
-        done = _reached(program, begun, workflow)
+        done = _reached(program, begun, workflow, way.back)
     return DriveFacts("back" if way.back else "forward", way.types, steps, done, outcome == "abandoned")
 
 
-def _open_way(program: Program, lines: Sequence[str], workflow: str) -> tuple[Move, Way]:
-    """A move behind some lines, and the way that is open on it."""
-    move = parse_show(program.ask(lines, [f"show {workflow}"])[0])
-    if move.way is None:
-        raise ProgramFailed(f"behind {lines[-1]} no way of {workflow} is open")
-    return move, move.way
-
-
-def _reached(program: Program, lines: Sequence[str], workflow: str) -> int:
-    """How many steps of a way are done until one is refused, with turns of the streams between."""
-    taken = list(lines)
+def _reached(program: Program, begun: Sequence[str], workflow: str, back: bool) -> int:
+    """How many steps of a way are done until one is refused, with turns of the streams between, as a drive has them."""
+    lines, done, tries = list(begun), 0, 1
     while True:
-        move, way = _open_way(program, taken, workflow)
-        step = f"step {workflow} {way.done}"
-        answer = program.ask(taken, [step])[0]
-        more = [step] if answer == "ok" else _feeding_turns(program, taken, move, way) if answer == NOT_LEVEL else []
-        if not more:
-            return way.done
-        taken += more
+        step = f"step {workflow} {done}"
+        shown, answer = program.ask(lines, [f"show {workflow}", step])
+        if answer == "ok":
+            lines, done, tries = [*lines, step], done + 1, 1
+        elif answer == NOT_LEVEL and tries < MOST_TRIES:
+            lines, tries = [*lines, *_feeding_turns(parse_show(shown), back)], tries + 1
+        else:
+            return done
 
 
-def _feeding_turns(program: Program, lines: Sequence[str], move: Move, way: Way) -> list[str]:
-    """A turn of each stream that feeds the other side, as a drive has them between its tries; none if there is nothing left to read."""
-    word, streams = ("back", move.back) if way.back else ("forward", move.forward)
-    turns = [f"advance {move.name} {stream_word(word, shard)} {it.position} {ENTRIES_AT_ONCE}" for shard, it in streams.items()]
-    answers = program.ask(lines, turns)
-    return turns if any(turn_of(it)[0] for it in answers if not is_refusal(it)) else []
+def _feeding_turns(move: Move, back: bool) -> list[str]:
+    """A turn of each stream that feeds the other side."""
+    word, streams = ("back", move.back) if back else ("forward", move.forward)
+    return [f"advance {move.name} {stream_word(word, shard)} {it.position} {ENTRIES_AT_ONCE}" for shard, it in streams.items()]
