@@ -3,15 +3,17 @@ from __future__ import annotations
 
 import os
 import pathlib
-from collections.abc import Callable, Iterator, Sequence
+from collections.abc import Callable, Iterable, Iterator, Sequence
 
 from mt_prompt.typed import TypedScript, running_streams
 from mt_runs.program import ProgramFailed, is_silent
 from mt_runs.refusals import ScriptPage
 from mt_runs.shards import first_key
-from mt_runs.show import TYPES
+from mt_runs.show import TYPES, stream_word
 from mt_runs.topology import Topology
+from mt_runs.words import counted, entries
 
+ROW_LINES = ("insert", "update", "append", "delete", "get")  # what may stand behind `at K.T`
 # The prompt's own lines, beside those of the language.
 OWN_LINES = {
     "where": ("where NAME", "what the name reaches for each tablet type"),
@@ -74,11 +76,11 @@ class Prompt:
         refusal = self.page.refusal_of(answer)
         if not refusal:
             return
-        forms = [it.form for it in self.page.forms.get(word, ())]
+        forms = [*(it.form for it in self.page.forms.get(word, ())), *(form for verb, (form, _) in OWN_LINES.items() if verb == word)]
         if refusal.name == "X1 BadLine" and forms:
             yield f"    form:  {'  or  '.join(forms)}"
         elif refusal.name == "X1 BadLine":
-            yield f"    there is no line that begins with {word}: `help` lists them"
+            yield f"    there is no line that begins with {ascii(word)}: `help` lists them"
             return
         yield f"    when:  {refusal.when}"
         yield f"    do:    {refusal.what_to_do}"
@@ -87,17 +89,14 @@ class Prompt:
 
     def _help(self, word: str) -> Iterator[str]:
         """All lines; or more of those that begin with a word, or of a refusal."""
-        forms = {verb: them for verb, them in self.page.forms.items() if word in ("", verb)}
-        width = max((len(it.form) for them in forms.values() for it in them), default=0)
-        for it in (it for them in forms.values() for it in them):
-            yield f"  {it.form:{width}}  {it.meaning}"
-            yield from [f"  {'':{width}}  answered: {it.answer}"] if word else []
+        forms = [it for verb, them in self.page.forms.items() if word in ("", verb) for it in them]
         own = [it for verb, it in OWN_LINES.items() if word in ("", verb)]
-        yield from ["", "Of the prompt alone:"] if own and not word else []
-        yield from (f"  {form:{width}}  {meaning}" for form, meaning in own)
         refusals = [it for it in self.page.refusals.values() if word and word in (it.name, *it.name.split())]
-        for refusal in refusals:
-            yield from (f"  {refusal.name}", f"    when:  {refusal.when}", f"    do:    {refusal.what_to_do}")
+        width = max([len(it.form) for it in forms] + [len(form) for form, _ in own], default=0)
+        yield from (f"  {it.form:{width}}  {it.meaning}{f' (answered: {it.answer})' if word else ''}" for it in forms)
+        yield from [] if word else ["", "Of the prompt alone:"]
+        yield from (f"  {form:{width}}  {meaning}" for form, meaning in own)
+        yield from (f"  {it.name}\n    when:  {it.when}\n    do:    {it.what_to_do}" for it in refusals)
         if not forms and not own and not refusals:
             yield f"there is no line and no refusal {word}"
 
@@ -116,9 +115,9 @@ class Prompt:
         if not move:
             yield from self._on_refusal_of(f"show {words[1]}")
             return
-        for stream, entries, rows in self.script.lag(move):
-            copy = f", and {rows} rows to copy" if rows else ""
-            yield f"{stream}: {entries} entries to read{copy}"
+        for stream, unread, rows in self.script.lag(move):
+            copy = f", and {counted(rows, 'row', 'rows')} to copy" if rows else ""
+            yield f"{stream}: {entries(unread)} to read{copy}"
         if not running_streams(move):
             yield "no stream runs"
 
@@ -168,31 +167,33 @@ def _served(answers: dict[str, str]) -> str:
 
 
 def completions(prompt: Prompt, before: Sequence[str], text: str) -> list[str]:
-    """The words that a text can go on to be, behind the words that stand before it on its line."""
+    """What a text can go on to be, behind the words that stand before it on its line; with a blank behind a word that is whole."""
     if not before:
-        words = {*prompt.page.forms, *OWN_LINES}
-    else:
-        forms = [it.form.split() for it in prompt.page.forms.get(before[0], ())] + [OWN_LINES[it][0].split() for it in OWN_LINES if it == before[0]]
-        words = {word for form in forms if len(form) > len(before) for word in _candidates(prompt, form[len(before)])}
-    return sorted(it for it in words if it.startswith(text))
+        return _whole({*prompt.page.forms, *OWN_LINES}, text)
+    forms = [*(it.form for it in prompt.page.forms.get(before[0], ())), *(form for verb, (form, _) in OWN_LINES.items() if verb == before[0])]
+    words = [form.split() for form in forms]
+    expected = {it[len(before)] for it in words if len(it) > len(before)}
+    found = {it for placeholder in expected for it in _candidates(prompt, placeholder)}
+    # a list may go on behind a word
+    return sorted(it for it in found if it.startswith(text)) if expected & {"TABLES", "TYPES"} else _whole(found, text)
+
+
+def _whole(words: Iterable[str], text: str) -> list[str]:
+    return sorted(f"{it} " for it in words if it.startswith(text))
 
 
 def _candidates(prompt: Prompt, placeholder: str) -> set[str]:
     """What may stand in a form in the place of such a word."""
     topology = prompt.script.topology()
-    keyspaces = topology.keyspaces
-    tables = {table for it in keyspaces.values() for table in it.tables}
-    places = {f"{it.name}.{table}" for it in keyspaces.values() for table in it.tables}
+    keyspaces = topology.keyspaces.values()
+    tables = {table for it in keyspaces for table in it.tables}
+    places = {f"{it.name}.{table}" for it in keyspaces for table in it.tables}
     workflows = {words[1] for words in map(str.split, prompt.script.lines) if words[:1] == ["create"]}
-    shards = {shard for it in keyspaces.values() for shard in it.shards}
+    streams = {stream_word(way, shard) for way in ("forward", "back") for it in keyspaces for shard in it.shards}
     found = {
-        **dict.fromkeys(("K", "S", "G"), set(keyspaces)),
+        **dict.fromkeys(("K", "S", "G"), set(topology.keyspaces)),
         **dict.fromkeys(("T", "TABLES"), tables),
         **dict.fromkeys(("NAME", "KEY", "TARGET"), tables | places | set(topology.rules)),
-        "K.T": places,
-        "W": workflows,
-        "TYPES": {"all", *TYPES},
-        "STREAM": {f"{way}{'' if shard == '-' else '/' + shard}" for way in ("forward", "back") for shard in shards},
-        "[WORD]": {*prompt.page.forms, *OWN_LINES},
+        **{"K.T": places, "W": workflows, "TYPES": {"all", *TYPES}, "STREAM": streams, "insert": set(ROW_LINES), "[WORD]": {*prompt.page.forms, *OWN_LINES}},
     }
-    return found.get(placeholder, {placeholder} if placeholder.islower() else set())
+    return found.get(placeholder, set())

@@ -62,33 +62,40 @@ class TypedScript:
     def filled_in(self, line: str) -> list[str]:
         """The lines that a short one stands for: of `advance W` and `advance W STREAM`, `step W` and `undo W` with the numbers that `show` gives.
 
-        `advance W` is a turn of each stream that runs. Any other line stands for itself.
+        `advance W` is a turn of each stream that runs. Where `show` gives no number it is 0, and the program says why. Any other line stands for itself.
         """
         words = line.split()
-        move = self.move(words[1]) if words[0] in ("advance", "step", "undo") and len(words) in (2, 3) else None
-        if move and words[0] == "advance":
-            turns = [f"advance {move.name} {stream} {position} 100" for stream, position in running_streams(move) if stream in words[2:] or len(words) == 2]
-            return turns or [line]
-        return [f"{words[0]} {move.name} {move.way.done}"] if move and move.way and len(words) == 2 else [line]
+        if (words[0], len(words)) not in (("advance", 2), ("advance", 3), ("step", 2), ("undo", 2)):
+            return [line]
+        move = self.move(words[1])
+        if words[0] != "advance":
+            return [f"{line} {move.way.done if move and move.way else 0}"]
+        streams = running_streams(move) if move else {}
+        asked = words[2:] or list(streams) or ["forward"]
+        return [f"advance {words[1]} {stream} {streams.get(stream, 0)} 100" for stream in asked]
 
     def lag(self, move: Move) -> Iterator[tuple[str, int, int]]:
         """Of each stream that runs how many entries it has still to read, and how many rows then to copy: by turns in runs of their own."""
-        for stream, position in running_streams(move):
-            turns: list[str] = []
-            entries = rows = 0
-            for _ in range(MOST_ROUNDS):
-                turns.append(f"advance {move.name} {stream} {position + entries} 65535")
-                read, copied = _done(self.ask(turns)[-1])
-                if not read + copied:
-                    break
-                entries, rows = entries + read, rows + copied
-            yield stream, entries, rows
+        for stream, position in running_streams(move).items():
+            yield (stream, *self._left_to_do(move.name, stream, position))
+
+    def _left_to_do(self, workflow: str, stream: str, position: int) -> tuple[int, int]:
+        """How many entries and rows a stream has still to bring."""
+        turns: list[str] = []
+        entries = rows = 0
+        for _ in range(MOST_ROUNDS):
+            turns.append(f"advance {workflow} {stream} {position + entries} 65535")
+            read, copied = _done(self.ask(turns)[-1])
+            if not read + copied:
+                break
+            entries, rows = entries + read, rows + copied
+        return entries, rows
 
 
-def running_streams(move: Move) -> list[tuple[str, int]]:
-    """The streams that run, as lines name them, with their positions."""
+def running_streams(move: Move) -> dict[str, int]:
+    """The positions of the streams that run, by the words that lines have for them."""
     streams = [(way, shard, it) for way, them in (("forward", move.forward), ("back", move.back)) for shard, it in them.items()]
-    return [(stream_word(way, shard), it.position) for way, shard, it in streams if it.is_running]
+    return {stream_word(way, shard): it.position for way, shard, it in streams if it.is_running}
 
 
 def _done(answer: str) -> tuple[int, int]:

@@ -4,15 +4,15 @@ from __future__ import annotations
 from collections.abc import Iterator, Mapping, Sequence
 from dataclasses import dataclass
 
-from mt_runs.program import MOST_WATCHERS, is_refused
-from mt_runs.refusals import ScriptPage
-from mt_runs.shards import first_key, is_range
-from mt_rehearsal.cluster import Cluster, Keyspace
+from mt_rehearsal.cluster import PLAN, Cluster, Keyspace
 from mt_rehearsal.commands import CREATE, WORD, Command
 from mt_rehearsal.documents import CannotRehearse
 from mt_rehearsal.moved import Moved
-from mt_rehearsal.report import Report
+from mt_rehearsal.report import Report, Warned
 from mt_rehearsal.session import Session
+from mt_runs.program import MOST_WATCHERS, is_refused
+from mt_runs.refusals import ScriptPage
+from mt_runs.shards import first_key, is_range
 
 MOST_SHARDS, MOST_TABLES = 8, 256
 
@@ -27,12 +27,8 @@ class Line:
 
     @property
     def text(self) -> str:
+        """The line as the program reads it."""
         return " ".join(self.words)
-
-    @property
-    def is_readable(self) -> bool:
-        """Whether each of its words is one to the program."""
-        return all(map(WORD.fullmatch, self.words))
 
 
 class Beginning:
@@ -45,36 +41,44 @@ class Beginning:
         self.shards = {it.name: self._shards(it) for it in self.keyspaces}
         self.moves = {it.number: self._moved(it) for it in self.creates}
 
+    def keyspace(self, name: str) -> Keyspace:
+        """A keyspace of those that are rehearsed."""
+        return next(it for it in self.keyspaces if it.name == name)
+
     def build(self, session: Session, page: ScriptPage) -> None:
         """Takes the lines; raises `CannotRehearse` if the program refuses one that something depends on."""
-        lines = [*self._keyspace_lines(), *self._rule_lines(), *self._row_lines()]
-        for line in filter(lambda it: not it.is_readable, lines):
-            self._refuse(line, "a name has something else than visible ASCII characters, of which mt's are made")
-        lines = [it for it in lines if it.is_readable]
+        lines = [it for it in (*self._keyspace_lines(), *self._rule_lines(), *self._row_lines()) if self._is_readable(it)]
         for line, answer in zip(lines, session.take([it.text for it in lines])):
             if is_refused(answer):
                 refusal = page.refusal_of(answer)
                 self._refuse(line, f"`{line.text}` is answered `{answer}`{': ' + refusal.when if refusal else ''}")
 
+    def _is_readable(self, line: Line) -> bool:
+        """Whether each word of a line is one to the program; if not, it is refused."""
+        is_readable = all(map(WORD.fullmatch, line.words))
+        if not is_readable:
+            self._refuse(line, "a name has something else than visible ASCII characters, of which mt's are made")
+        return is_readable
+
     def _refuse(self, line: Line, why: str) -> None:
         """Leaves out what a line stands for if nothing depends on it, or else raises `CannotRehearse`."""
         if not line.may_fail:
             raise CannotRehearse(f"{line.what}: {why}")
-        self.report.warn("left out", f"{line.what} is left out: {why}")
+        self.report.warn([Warned("left out", f"{line.what} is left out: {why}")])
 
     def _chosen(self) -> list[Keyspace]:
         """The keyspaces that are rehearsed, in the order in which the plan and the rules name them."""
-        there, sides = self.cluster.keyspaces, [side for it in self.creates for side in (it.source, it.target)]
-        for command in self.creates:
-            missing = next((side for side in (command.source, command.target) if side not in there or not there[side].is_told), None)
-            if missing:
-                raise CannotRehearse(f"plan.txt: line {command.line}: no document tells of the keyspace {missing} ({missing}.vschema.json, {missing}.shards.json)")
+        there = {name: it for name, it in self.cluster.keyspaces.items() if it.is_told}
+        sides = [(side, command.line) for command in self.creates for side in (command.source, command.target)]
+        untold, line = next((it for it in sides if it[0] not in there), ("", 0))
+        if line:
+            raise CannotRehearse(f"{PLAN}: line {line}: no document tells of the keyspace {untold}, as {untold}.vschema.json would")
         led_to = [target.partition(".")[0] for rule in self.cluster.rules for target in rule.targets]
-        for name in dict.fromkeys(it for it in led_to if it not in there):
-            self.report.warn("document", f"no document tells of the keyspace {name}, to which a rule leads: it is taken as not there")
-        order = [name for name in dict.fromkeys([*sides, *led_to, *there]) if name in there and there[name].is_told]
+        strange = dict.fromkeys(it for it in led_to if it not in there)
+        self.report.warn(Warned("document", f"no document tells of the keyspace {it}, to which a rule leads: it is taken as not there") for it in strange)
+        order = [it for it in dict.fromkeys([*(side for side, _ in sides), *led_to, *there]) if it in there]
         if len(order) > MOST_WATCHERS:
-            self.report.warn("left out", f"keyspaces are left out, as mt has room for {MOST_WATCHERS}: {', '.join(order[MOST_WATCHERS:])}")
+            self.report.warn([Warned("left out", f"keyspaces are left out, as mt has room for {MOST_WATCHERS}: {', '.join(order[MOST_WATCHERS:])}")])
         return [there[name] for name in order[:MOST_WATCHERS]]
 
     def _shards(self, keyspace: Keyspace) -> dict[str, str]:
@@ -82,7 +86,8 @@ class Beginning:
         name, shards = keyspace.name, keyspace.shards
         if shards is None:
             if keyspace.is_sharded or keyspace.is_sharded is None:
-                raise CannotRehearse(f"{name}.shards.json is missing, and {'the VSchema says that it is sharded' if keyspace.is_sharded else 'there is no VSchema'}")
+                why = f"{name}.vschema.json says that it is sharded" if keyspace.is_sharded else f"there is no {name}.vschema.json"
+                raise CannotRehearse(f"{name}.shards.json is missing, and {why}")
             return {"-": "-"}
         bad = next((it for it in shards if not is_range(it.keys)), None)
         if bad:
@@ -97,13 +102,14 @@ class Beginning:
         ranges = list(found)
         each = -(-len(ranges) // MOST_SHARDS)
         groups = [ranges[at : at + each] for at in range(0, len(ranges), each)]
-        self.report.warn("shards", f"{name} has {len(ranges)} shards, and mt takes {MOST_SHARDS}: up to {each} neighbours are rehearsed as one, as all go through the same steps")
+        told = f"{name} has {len(ranges)} shards, and mt takes {MOST_SHARDS}"
+        self.report.warn([Warned("shards", f"{told}: up to {each} neighbours are rehearsed as one, as all go through the same steps")])
         return {f"{it[0].partition('-')[0]}-{it[-1].partition('-')[2]}": it[0] if len(it) == 1 else f"{it[0]}..{it[-1]}" for it in groups}
 
     def _moved(self, command: Command) -> Moved:
         """What a `create` of the plan moves; raises `CannotRehearse` where the documents don't tell it, or it can't be represented."""
-        source, target = (next(it for it in self.keyspaces if it.name == name) for name in (command.source, command.target))
-        where = f"plan.txt: line {command.line}"
+        source, target = self.keyspace(command.source), self.keyspace(command.target)
+        where = f"{PLAN}: line {command.line}"
         if len(self.shards[source.name]) > 1:
             count = len(source.shards or ())
             raise CannotRehearse(f"{where}: the source {source.name} has {count} shards, and mt moves tables out of a keyspace of one shard alone")
@@ -120,8 +126,8 @@ class Beginning:
         asked = source.tables if "all-tables" in command.flags else command.named("tables")
         for table in dict.fromkeys(it for it in asked if it not in command.named("exclude-tables")):
             if source.present is None and table not in (source.listed or ()):
-                told = f"{source.name}.vschema.json doesn't list {table}, and there is no {source.name}.schema.json (GetSchema) that says which tables are there"
-                raise CannotRehearse(f"plan.txt: line {command.line}: {told}")
+                told = f"{source.name}.vschema.json doesn't list {table}, and there is no {source.name}.schema.json that says which tables are there"
+                raise CannotRehearse(f"{PLAN}: line {command.line}: {told}")
             yield table
 
     def _see_denials(self, where: str, keyspace: Keyspace, tables: Sequence[str]) -> None:
@@ -154,7 +160,8 @@ class Beginning:
         needed, others = [it for it in tables if it in moved], [it for it in tables if it not in moved]
         room = MOST_TABLES - len(needed) - len(made)
         if len(others) > room:
-            self.report.warn("left out", f"{len(others) - room} tables of {keyspace.name} that don't move are left out, as mt has room for {MOST_TABLES}")
+            told = f"{len(others) - room} tables of {keyspace.name} that don't move are left out, as mt has room for {MOST_TABLES}"
+            self.report.warn([Warned("left out", told)])
         return needed, others[: max(room, 0)]
 
     def _rule_lines(self) -> Iterator[Line]:

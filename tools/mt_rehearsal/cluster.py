@@ -128,11 +128,9 @@ def _keyspaces(folder: pathlib.Path, names: list[str]) -> tuple[dict[str, Keyspa
 
 
 def _keyspace(folder: pathlib.Path, name: str, names: list[str], notes: list[str]) -> Keyspace:
-    def document(kind: str) -> Value | None:
-        file = f"{name}.{kind}.json"
-        return read_document(folder / file) if file in names else None
-
-    vschema, schema, shards = document("vschema"), document("schema"), document("shards")
+    """What the documents of a keyspace say; notes are added on what is left out."""
+    files = [f"{name}.{kind}.json" for kind in ("vschema", "schema", "shards")]
+    vschema, schema, shards = (read_document(folder / file) if file in names else None for file in files)
     present = _present(schema, name, notes) if schema else None
     records = _records(shards, name, notes) if shards else None
     if not vschema:

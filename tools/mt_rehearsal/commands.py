@@ -45,10 +45,11 @@ BETWEEN = ("&&", ";", "||", "&")
 
 @dataclass(frozen=True)
 class Command:
-    """A command of the plan: `kind` as `MoveTables`, `action` as `create` (empty where there is none), its flags with dashes, and words that are left over."""
+    """A command of the plan: its words, `kind` as `MoveTables`, `action` as `create` (empty where there is none), its flags, and words that are left over."""
 
     number: int
     line: int
+    words: tuple[str, ...]
     kind: str
     action: str
     flags: Mapping[str, str]
@@ -66,10 +67,11 @@ class Command:
 
     @property
     def text(self) -> str:
-        """The command as it is told, with the flags that have a meaning here."""
-        flags = [f"--{it} {self.flags[it]}" for it in OF_ACTION.get(self.action, ()) if it in self.flags and it != "all-tables"]
-        alone = ["--all-tables"] if "all-tables" in self.flags and self.action == CREATE else []
-        return " ".join(filter(None, [self.kind, self.action, *alone, *flags]))
+        """The command as it is told: with the flags that have a meaning here, or as it stands if it has none."""
+        if not self.is_rehearsed:
+            return " ".join(self.words)
+        flags = [f"--{it}" if it in ALONE else f"--{it} {self.flags[it]}" for it in OF_ACTION.get(self.action, ()) if it in self.flags]
+        return " ".join([self.kind, "--workflow", self.workflow, self.action, *flags])
 
     @property
     def not_shown(self) -> list[str]:
@@ -84,10 +86,12 @@ class Command:
 
     @property
     def workflow(self) -> str:
+        """The name of the workflow."""
         return self.flags["workflow"]
 
     @property
     def target(self) -> str:
+        """The target keyspace."""
         return self.flags["target-keyspace"]
 
     @property
@@ -113,10 +117,8 @@ class Command:
 
 def read_plan(folder: pathlib.Path) -> list[Command]:
     """The commands of plan.txt; raises `CannotRehearse`, with the line, where one can't be read or lacks a flag that it needs."""
-    commands: list[Command] = []
-    for number, line in _logical_lines(read_text(folder / PLAN)):
-        for words in _split(number, line):
-            commands.append(_command(len(commands) + 1, number, words))
+    found = [(line, words) for line, text in _logical_lines(read_text(folder / PLAN)) for words in _split(line, text)]
+    commands = [_command(number, line, words) for number, (line, words) in enumerate(found, 1)]
     if not commands:
         raise CannotRehearse(f"{PLAN}: has no command")
     targets = {it.workflow: it for it in reversed(commands) if it.is_rehearsed and it.action == CREATE}
@@ -174,12 +176,11 @@ def _split(number: int, line: str) -> list[list[str]]:
 def _command(number: int, line: int, words: list[str]) -> Command:
     """A command from its words; the program's own name, and what stands before it, count for nothing."""
     names = [at for at, word in enumerate(words) if pathlib.PurePath(word).name == "vtctldclient"]
-    is_client = bool(names) or KINDS.fullmatch(words[0]) is not None
-    flags, plain = _flags(words[names[0] + 1 :] if names else words)
-    if not is_client or not plain:
-        return Command(number, line, words[0], "", {}, tuple(words[1:]))
-    action = "".join(plain[1:2])
-    command = Command(number, line, plain[0], action.lower() if plain[0] == MOVE_TABLES else action, flags, tuple(plain[2:]))
+    if not names and not KINDS.fullmatch(words[0]):
+        return Command(number, line, tuple(words), "", "", {}, ())
+    words = words[names[0] + 1 :] if names else words
+    flags, plain = _flags(words)
+    command = Command(number, line, tuple(words), "".join(plain[:1]), "".join(plain[1:2]).lower(), flags, tuple(plain[2:]))
     needed = (*OF_WORKFLOW, "source-keyspace") if command.action == CREATE else OF_WORKFLOW
     missing = [it for it in needed if not flags.get(it)] if command.is_rehearsed else []
     if missing:

@@ -4,12 +4,12 @@ from __future__ import annotations
 import os
 from collections.abc import Iterator, Mapping
 
-from mt_runs.pages import table_rows
-from mt_runs.program import REPOSITORY
-from mt_runs.topology import Topology
 from mt_rehearsal.cluster import Seen, Shard
 from mt_rehearsal.report import Departure
 from mt_rehearsal.states import denied_tables
+from mt_runs.pages import table_rows
+from mt_runs.program import REPOSITORY
+from mt_runs.topology import Topology
 
 VITESS_PAGE = REPOSITORY / "docs/VITESS.md"
 KNOWN_HEAD = ["departure", "behind", "the cluster has", "the rehearsal has"]

@@ -2,7 +2,7 @@
 from __future__ import annotations
 
 import dataclasses
-from collections.abc import Mapping, Sequence
+from collections.abc import Iterable, Mapping, Sequence
 from dataclasses import dataclass, field
 from typing import Any
 
@@ -24,7 +24,7 @@ class Warned:
 class Refused:
     """A refusal, with the words of docs/SCRIPT.md on it."""
 
-    answer: str
+    name: str
     when: str
     what_to_do: str
 
@@ -65,6 +65,7 @@ class Reached:
 
     @property
     def is_served(self) -> bool:
+        """Whether it was answered with a row, or with none."""
         return self.answer == SERVED
 
 
@@ -82,8 +83,24 @@ class Query:
 
 
 @dataclass(frozen=True)
+class SameAs:
+    """That a topology is the one from before a command: all of it, or else the part that belongs to the move."""
+
+    command: int
+    is_whole: bool
+
+
+@dataclass(frozen=True)
+class Copied:
+    """How many rows the streams copied behind a `create`, and how many entries of the log they read."""
+
+    rows: int
+    entries: int
+
+
+@dataclass(frozen=True)
 class Undo:
-    """An undo of all steps of a switch that is open: what `mt` answered, and whether the topology is that from before its begin. None where the way has ended."""
+    """An undo of all steps of a switch that is open: what `mt` answered, and whether the topology is then that from before its begin."""
 
     answer: str
     is_as_before: bool
@@ -93,7 +110,8 @@ class Undo:
 class StepShown:
     """A step inside a command, or its begin: what is so behind it.
 
-    `place` is the number that `step` takes, None for the begin. `entries` is how many entries of logs were read so that it could be taken, None if it didn't wait.
+    `place` is the number that `step` takes, None for the begin. `entries` is how many entries of logs were read so that it could be taken, None if it
+    didn't wait. `undo` is None behind the last step.
     """
 
     place: int | None
@@ -108,16 +126,15 @@ class StepShown:
 
 @dataclass(frozen=True)
 class WayBack:
-    """A way back, tried in a run of its own: the answer is `ok`, or the refusal that ended it.
+    """A way back, tried in a run of its own: its commands, the lines that stood for them, and `ok` or the refusal that ended it.
 
-    `as_before` is the number of the command before which the topology was as it is behind it, None if it was never; `is_whole` says whether all of it, or the
-    move's part.
+    `same_as` is None if it was refused, or if the topology behind it was never the one from before a command.
     """
 
     commands: tuple[str, ...]
+    lines: tuple[str, ...]
     answer: str
-    as_before: int | None
-    is_whole: bool
+    same_as: SameAs | None
 
 
 @dataclass(frozen=True)
@@ -148,20 +165,20 @@ class CommandReport:
     not_shown: list[str] = field(default_factory=list)
     answer: str | None = None
     refused: Refused | None = None
-    refused_at: str | None = None
     conflicts: list[Conflict] = field(default_factory=list)
     without_conflicts: str | None = None
-    copied: tuple[int, int] | None = None
+    copied: Copied | None = None
     steps: list[StepShown] = field(default_factory=list)
     rules: list[RuleChange] = field(default_factory=list)
     denied: list[DeniedChange] = field(default_factory=list)
     dropped: list[str] = field(default_factory=list)
     has_ended: bool = False
     queries: list[Query] = field(default_factory=list)
-    as_before: tuple[int, bool] | None = None
+    same_as: SameAs | None = None
     ways_back: list[WayBack] = field(default_factory=list)
     departures: list[Departure] | None = None
     all_rules: Mapping[str, str] = field(default_factory=dict)
+    script_lines: int = 0
 
 
 @dataclass
@@ -183,11 +200,9 @@ class Report:
             return CANNOT_REPRESENT
         return NOT_AS_PLANNED if self.problems else CAN_RUN
 
-    def warn(self, kind: str, text: str) -> None:
-        """Adds a warning, unless it is there."""
-        warned = Warned(kind, text)
-        if warned not in self.warnings:
-            self.warnings.append(warned)
+    def warn(self, warnings: Iterable[Warned]) -> None:
+        """Adds warnings, but for those that are there."""
+        self.warnings = list(dict.fromkeys([*self.warnings, *warnings]))
 
 
 def as_document(report: Report) -> dict[str, Any]:

@@ -3,9 +3,9 @@ from __future__ import annotations
 
 from collections.abc import Sequence
 
-from mt_runs.topology import Topology
 from mt_rehearsal.moved import Moved
-from mt_rehearsal.report import DeniedChange, RuleChange
+from mt_rehearsal.report import DeniedChange, RuleChange, SameAs
+from mt_runs.topology import Topology
 
 
 class States:
@@ -18,14 +18,14 @@ class States:
         """Says how the topology stands before a command."""
         self._before.append((number, topology))
 
-    def as_before(self, topology: Topology, move: Moved) -> tuple[int, bool] | None:
-        """The latest command before which all of the topology was this one, and True; or else the one before which the move's part of it was, and False."""
+    def same_as(self, topology: Topology, move: Moved) -> SameAs | None:
+        """The latest command before which all of the topology was this one; or else the latest before which the move's part of it was."""
         whole = next((number for number, it in reversed(self._before) if it == topology), None)
         if whole is not None:
-            return whole, True
+            return SameAs(whole, True)
         part = move.part_of(topology)
         same = next((number for number, it in reversed(self._before) if move.part_of(it) == part), None)
-        return None if same is None else (same, False)
+        return None if same is None else SameAs(same, False)
 
 
 def rule_changes(before: Topology, after: Topology) -> list[RuleChange]:

@@ -4,41 +4,64 @@ from __future__ import annotations
 from collections.abc import Iterator
 
 from mt_rehearsal.beginning import Beginning
-from mt_rehearsal.cluster import Keyspace
+from mt_rehearsal.cluster import Keyspace, Rule
 from mt_rehearsal.moved import Moved
-from mt_rehearsal.report import Report
+from mt_rehearsal.report import Warned
+
+NUMERIC = "numeric"  # the vindex by which rows are placed here
 
 
-def warn_of_documents(beginning: Beginning, report: Report) -> None:
-    """Warns of what the documents have and `mt` hasn't, and of names that they leave open."""
-    for keyspace in beginning.keyspaces:
-        for shard in keyspace.shards or ():
-            for it in shard.controls:
-                told = f"{keyspace.name}/{shard.name} denies {', '.join(it.tables)} to {it.tablet_type} already, and no line of mt denies a table by hand: they count as allowed"
-                report.warn("denied", told)
+def of_documents(beginning: Beginning) -> Iterator[Warned]:
+    """What the documents have and `mt` hasn't, and the names that they leave open."""
+    yield from (it for keyspace in beginning.keyspaces for it in _of_denials(keyspace))
     for move in beginning.moves.values():
-        _warn_of_target(beginning, move, report)
+        target = beginning.keyspace(move.target)
+        listed = [it for it in move.tables if it in (target.listed or ())]
+        yield from _of_listed(target, listed)
+        yield from _of_rivals(beginning, target, listed)
+        yield from _of_vindexes(target, move)
 
 
-def _warn_of_target(beginning: Beginning, move: Moved, report: Report) -> None:
-    """Warns of a target whose VSchema lists tables that aren't there yet, and of vindexes that place rows otherwise than here."""
-    target = next(it for it in beginning.keyspaces if it.name == move.target)
-    listed = [it for it in move.tables if it in (target.listed or ())]
+def of_rules(beginning: Beginning, move: Moved) -> Iterator[Warned]:
+    """Of a move that was created: the hand-made rules that lead to one of its tables, by another name or by one of its own."""
+    own = {key for table in move.tables for key in move.own_keys(table)}
+    places = {f"{side}.{table}" for side in (move.source, move.target) for table in move.tables}
+    for rule in beginning.cluster.rules:
+        if rule.targets[0] in places:
+            yield _of_rule(rule, rule.key in own, rule.targets[0].startswith(f"{move.source}."))
+
+
+def _of_rule(rule: Rule, is_own: bool, is_at_source: bool) -> Warned:
+    told = f"the rule {rule.key} -> {rule.targets[0]}"
+    if is_own:
+        why = "cancel gives it back here; Vitess's takes the rules for the move's names away: keep the document, to apply it again"
+        return Warned("kept rule", f"{told} stands before the move. {why}")
+    if not is_at_source:
+        return Warned("alias", f"{told} isn't one of the move's: it stays, so queries by {rule.key} are refused until writes are switched")
+    after = f"once writes are switched, queries by {rule.key} are refused, and after complete there is no table behind it"
+    return Warned("alias", f"{told} isn't one of the move's: it stays, so {after}. Point it at the table's new place when you switch")
+
+
+def _of_denials(keyspace: Keyspace) -> Iterator[Warned]:
+    controls = [(shard.name, it) for shard in keyspace.shards or () for it in shard.controls]
+    for shard, it in controls:
+        told = f"{keyspace.name}/{shard} denies {', '.join(it.tables)} to {it.tablet_type} already"
+        yield Warned("denied", f"{told}, and no line of mt denies a table by hand: they count as allowed")
+
+
+def _of_listed(target: Keyspace, listed: list[str]) -> Iterator[Warned]:
+    """Of tables that the target's VSchema lists, while no document says which tables are there."""
     if listed and target.present is None:
-        told = f"the VSchema of {target.name} lists {', '.join(listed)}: taken as planned and not yet made, as there is no {target.name}.schema.json that says which tables are there"
-        report.warn("listed", told)
+        told = f"the VSchema of {target.name} lists {', '.join(listed)}: taken as planned and not yet made"
+        yield Warned("listed", f"{told}, as there is no {target.name}.schema.json that says which tables are there")
+
+
+def _of_rivals(beginning: Beginning, target: Keyspace, listed: list[str]) -> Iterator[Warned]:
+    """Of tables that two VSchemas list, so that a gate can't tell which one a bare name means."""
     for other, tables in _rivals(beginning, target, listed).items():
-        first = tables[0]
-        told = f"VTGate finds {', '.join(tables)} in the VSchemas of {target.name} and {other}, and no rule decides: until create writes one, a query by the bare name is ambiguous"
-        report.warn("ambiguous", f"{told}. Set require_explicit_routing in {target.name}, or a rule {first} -> {other}.{first}")
-    kinds: dict[str, list[str]] = {}
-    for table in move.tables:
-        kind = (target.vindexes or {}).get(table, "numeric")
-        kinds.setdefault(kind, []).append(table)
-    for kind, tables in kinds.items():
-        if kind != "numeric":
-            told = f"the vindex of {', '.join(tables)} in {target.name} is {kind}, and mt places rows by their number alone: each shard has one sample row"
-            report.warn("vindex", f"{told}, and which of your rows goes where isn't shown")
+        told = f"VTGate finds {', '.join(tables)} in the VSchemas of {target.name} and {other}, and no rule decides"
+        until = "until create writes one, a query by the bare name is ambiguous"
+        yield Warned("ambiguous", f"{told}: {until}. Set require_explicit_routing in {target.name}, or a rule {tables[0]} -> {other}.{tables[0]}")
 
 
 def _rivals(beginning: Beginning, target: Keyspace, listed: list[str]) -> dict[str, list[str]]:
@@ -54,23 +77,10 @@ def _rivals(beginning: Beginning, target: Keyspace, listed: list[str]) -> dict[s
     return found
 
 
-def warn_of_rules(beginning: Beginning, move: Moved, report: Report) -> None:
-    """Warns of hand-made rules that lead to a table of a move that was created, by another name or by one of its own."""
-    for text, kind in _of_rules(beginning, move):
-        report.warn(kind, text)
-
-
-def _of_rules(beginning: Beginning, move: Moved) -> Iterator[tuple[str, str]]:
-    own = {key for table in move.tables for key in move.own_keys(table)}
-    for rule in beginning.cluster.rules:
-        keyspace, _, table = rule.targets[0].partition(".")
-        if table not in move.tables or keyspace not in (move.source, move.target):
-            continue
-        told = f"the rule {rule.key} -> {rule.targets[0]}"
-        if rule.key in own:
-            yield f"{told} stands before the move. cancel gives it back here; Vitess's takes the rules of the move's names away: keep the document, to apply it again", "kept rule"
-        elif keyspace == move.source:
-            after = f"once writes are switched, queries by {rule.key} are refused, and after complete there is no table behind it"
-            yield f"{told} isn't one of the move's: it stays, so {after}. Point it at the table's new place when you switch", "alias"
-        else:
-            yield f"{told} isn't one of the move's: it stays, so queries by {rule.key} are refused until writes are switched", "alias"
+def _of_vindexes(target: Keyspace, move: Moved) -> Iterator[Warned]:
+    """Of vindexes that place rows otherwise than here."""
+    kinds = {table: (target.vindexes or {}).get(table, NUMERIC) for table in move.tables}
+    for kind in dict.fromkeys(it for it in kinds.values() if it != NUMERIC):
+        tables = ", ".join(table for table, it in kinds.items() if it == kind)
+        told = f"the vindex of {tables} in {target.name} is {kind}, and mt places rows by their number alone: each shard has one sample row"
+        yield Warned("vindex", f"{told}, and which of your rows goes where isn't shown")

@@ -59,7 +59,8 @@ class PlannedStep:
 def planned_steps(types: Collection[str], back: bool, shards: Sequence[str]) -> list[PlannedStep]:
     """The steps of a switch of these types, or of a reversal (`back`), of a move to a target with these shards.
 
-    Without primary there is the one that changes the reads, with primary alone there are those behind it. Of several shards the target's refresh is a step for each.
+    Without primary there is the one that changes the reads, with primary alone there are those behind it. Of several shards the target's refresh is a
+    step for each.
     """
     numbers = [READS] if set(types) - {"primary"} else []
     numbers += range(DENY, FREEZE + 1) if "primary" in types else []

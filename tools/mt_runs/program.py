@@ -47,8 +47,8 @@ class Program:
     def answers(self, lines: Sequence[str]) -> list[str]:
         """The answer to each line that isn't silent.
 
-        A line is text without a line feed; bytes that are no UTF-8 stand in it as Python's surrogates. Raises `ProgramFailed`: the script is too long, the program
-        can't be started, ends with another status than 0, or answers more or fewer lines.
+        A line is text without a line feed; bytes that are no UTF-8 stand in it as Python's surrogates. Raises `ProgramFailed`: the script is too long, the
+        program can't be started, ends with another status than 0, or answers more or fewer lines.
         """
         script = "".join(f"{line}\n" for line in lines).encode("utf-8", "surrogateescape")
         if len(script) > MOST_BYTES:

@@ -23,6 +23,7 @@ class Stream:
 
     @property
     def is_running(self) -> bool:
+        """Whether an `advance` of it is taken."""
         return self.state == "running"
 
 

@@ -29,8 +29,8 @@ class Topology:
     def led_to(self, name: str, tablet_type: str) -> str | None:
         """Where the rules lead a name for a tablet type, as `keyspace.table`, by the look-up that docs/SCRIPT.md describes.
 
-        The name has no type behind it. None is a name without a keyspace that has no rule and that no keyspace or several have. What is led to needn't be there,
-        and whether it answers is for the program to say.
+        The name has no type behind it. None is a name without a keyspace that has no rule and that no keyspace or several have. What is led to needn't be
+        there, and whether it answers is for the program to say.
         """
         rule = self.rules.get(f"{name}@{tablet_type}") or self.rules.get(name)
         if rule or "." in name:
