@@ -86,9 +86,17 @@ export function labelOf(facts, column) {
   const lines = linesOf(facts, column);
   const isSetUp = column.first === 1 && column.moves.every((state) => state === null);
   if (isSetUp) return `${counted(lines.length, "line")} of set-up`;
-  const text = lines.length > 1 ? counted(lines.length, "client line") : lineLabel(lines[0].text);
+  const text = lines.length > 1 ? severalLabel(lines) : lineLabel(lines[0].text);
   const refused = refusalsOf(facts, column);
   return refused.length ? `${cut(text, 34)}  ${refused.join(", ")}` : cut(text, 40);
+}
+
+/**
+ * Several lines of a kind in few words.
+ * @param {import("./facts.mjs").Line[]} lines
+ */
+function severalLabel(lines) {
+  return wordsIn(lines[0].text)[0] === "advance" ? `${lines.length} turns of streams` : counted(lines.length, "client line");
 }
 
 /**

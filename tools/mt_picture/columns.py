@@ -7,7 +7,7 @@ from mt_picture.clients import is_client_line
 from mt_picture.script import Script, words_of
 from mt_runs.refusals import REFUSED
 
-LONG = 90  # lines, from which on neighbouring lines of clients share a column
+LONG = 90  # lines, from which on neighbours of a kind share a column
 MOST_COLUMNS = 400
 
 
@@ -24,8 +24,8 @@ def refusal_name(answer: str) -> str | None:
 def folded(script: Script, answers: Sequence[str]) -> list[range]:
     """The places of the lines of each column.
 
-    The lines in front of the first `create` are one. Behind it each line is one; but in a script of many lines the neighbouring lines of clients that were all
-    answered, or all refused alike, share one. Raises `CannotDraw` where these are too many.
+    The lines in front of the first `create` are one. Behind it each line is one; but in a script of many lines neighbouring lines of clients, or turns of streams,
+    that were all answered, or all refused alike, share one. Raises `CannotDraw` where these are too many.
     """
     starts = [*_starts(script, answers), len(script.lines)]
     if len(starts) - 1 > MOST_COLUMNS:
@@ -38,8 +38,15 @@ def _starts(script: Script, answers: Sequence[str]) -> Iterator[int]:
     first_create = creates[0] if creates else len(script.lines)
     if first_create:
         yield 0
-    kinds = [(is_client_line(line), refusal_name(answer)) for line, answer in zip(script.lines, answers)]
+    kinds = [(_shared_kind(line), refusal_name(answer)) for line, answer in zip(script.lines, answers)]
     for place in range(first_create, len(script.lines)):
         joins = len(script.lines) > LONG and place > first_create and kinds[place][0] and kinds[place] == kinds[place - 1]
         if not joins:
             yield place
+
+
+def _shared_kind(line: str) -> str | None:
+    """The kind of a line that neighbours of its kind may share a column with."""
+    if is_client_line(line):
+        return "client"
+    return "turn" if words_of(line)[0] == "advance" else None
