@@ -20,7 +20,7 @@ export function linesTable(facts) {
     const note = line.note ? `<tr class="note"><td></td><td colspan="2">${escaped(line.note)}</td></tr>` : "";
     const refusal = refusalIn(line.answer);
     const means = refusal ? `<span class="means">${escaped(refusalWords(facts, refusal))}</span>` : "";
-    const cells = `<td>${place + 1}</td><td><code>${escaped(cut(line.text, LONGEST_ANSWER))}</code></td>`;
+    const cells = `<th scope="row">${place + 1}</th><td><code>${escaped(cut(line.text, LONGEST_ANSWER))}</code></td>`;
     return `${note}<tr${refusal ? ' class="refused"' : ""}>${cells}<td><code>${escaped(cut(line.answer, LONGEST_ANSWER))}</code>${means}</td></tr>`;
   });
   return tableOf(["Line", "The line", "Its answer"], rows);
@@ -50,7 +50,7 @@ function accountRow(facts, move, column, state) {
     stepsDone(state),
     [wayBackOf(state).texts[0]],
   ];
-  return `<tr><td>${numbersOf(column)}</td>${cells.map((lines) => `<td>${lines.map(escaped).join("<br>")}</td>`).join("")}</tr>`;
+  return `<tr><th scope="row">${numbersOf(column)}</th>${cells.map((lines) => `<td>${lines.map(escaped).join("<br>")}</td>`).join("")}</tr>`;
 }
 
 /** @param {State} state */

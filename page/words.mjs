@@ -85,8 +85,7 @@ export function streamTexts(stream) {
 export function labelOf(facts, column) {
   const lines = linesOf(facts, column);
   const isSetUp = column.first === 1 && column.moves.every((state) => state === null);
-  if (isSetUp) return `${counted(lines.length, "line")} of set-up`;
-  const text = lines.length > 1 ? severalLabel(lines) : lineLabel(lines[0].text);
+  const text = isSetUp ? `${counted(lines.length, "line")} of set-up` : lines.length > 1 ? severalLabel(lines) : lineLabel(lines[0].text);
   const refused = refusalsOf(facts, column);
   return refused.length ? `${cut(text, 34)}  ${refused.join(", ")}` : cut(text, 40);
 }
