@@ -19,7 +19,10 @@ OTHERS = [None, 5, -1.5, True, "x", "a b", "\ud800", "", [], [[]], {}, {"x": Non
 CUTS = 8  # of each document
 MOST = 24  # other values in each document, drawn at random
 PLANS = 150
-WORDS = ["create", "MoveTables", "--tables", "--tables=", "--workflow", "'", '"', "\\", "#", "&&", ";", "|", "-w", "--", "-", "=", "\x00", "caf\u00e9", "--tablet-types", ",,", "all", "--all-tables"]
+WORDS = "create MoveTables --tables --tables= --workflow ' \" \\ # && ; | -w -- - = \x00 caf\u00e9 --tablet-types ,, all --all-tables".split(" ")
+NO_PLANS = {"empty": b"", "comments alone": b"# a\n\n  # b\n", "no UTF-8": b"MoveTables \xff", "an open quote": b"MoveTables 'create"}
+# What is never a document.
+NO_JSON = ("empty", "blank", "no UTF-8", "cut", "nested", "a line")
 
 
 def places(value: object, at: tuple = ()) -> Iterator[tuple]:
@@ -53,8 +56,7 @@ def spoilt(text: bytes) -> Iterator[tuple[str, bytes]]:
     yield "a line of a shell before it", b"$ vtctldclient ..\n" + text
     yield "nested deep", b'{"rules":' + b"[" * 100_000
     yield "a number of many digits", b'{"rules":' + b"9" * 10_000 + b"}"
-    for at in range(1, CUTS):
-        yield f"cut to {at} of {CUTS} parts", text[: len(text) * at // CUTS]
+    yield from ((f"cut to {at} of {CUTS} parts", text[: len(text) * at // CUTS]) for at in range(1, CUTS))
     document = json.loads(text)
     others = [(place, value) for place in places(document) for value in [*OTHERS, *[...] * bool(place)]]
     for place, value in random.Random(len(text)).sample(others, min(MOST, len(others))):
@@ -85,31 +87,42 @@ def complaints(folders: list[pathlib.Path]) -> Iterator[str | None]:
 
 
 def of_documents(folder: pathlib.Path) -> Iterator[str | None]:
+    """What is wrong with how the documents of a folder are read, each spoilt in each way, and with a folder in its place."""
     for path in sorted(folder.glob("*.json")):
-        text = path.read_bytes()
-        for what, other in spoilt(text):
-            path.write_bytes(other)
-            yield complaint(folder, f"{folder.name}/{path.name}, {what}", must_fail=what.startswith(("empty", "blank", "no UTF-8", "cut", "nested", "a line")))
-        path.unlink()
-        path.mkdir()
-        yield complaint(folder, f"{folder.name}/{path.name} is a folder", must_fail=True)
-        path.rmdir()
-        path.write_bytes(text)
+        yield from of_document(folder, path)
+
+
+def of_document(folder: pathlib.Path, path: pathlib.Path) -> Iterator[str | None]:
+    """The same of one document, which is as it was in the end."""
+    text = path.read_bytes()
+    for what, other in spoilt(text):
+        path.write_bytes(other)
+        yield complaint(folder, f"{folder.name}/{path.name}, {what}", must_fail=what.startswith(NO_JSON))
+    path.unlink()
+    path.mkdir()
+    yield complaint(folder, f"{folder.name}/{path.name} is a folder", must_fail=True)
+    path.rmdir()
+    path.write_bytes(text)
 
 
 def of_plans(folder: pathlib.Path) -> Iterator[str | None]:
-    """Plans of which words are left out, doubled, and mixed with others."""
+    """What is wrong with how plans are read of which words are left out, doubled, and mixed with others, and with what is no plan."""
     draw, path = random.Random(folder.name), folder / "plan.txt"
     text = path.read_text()
     for number in range(PLANS):
-        words = text.replace("\n", " \n ").split(" ")
-        for _ in range(draw.randint(1, 4)):
-            at = draw.randrange(len(words))
-            words[at : at + draw.randint(0, 2)] = draw.choices([*WORDS, *words], k=draw.randint(0, 2))
-        path.write_text(" ".join(words))
+        path.write_text(mixed(draw, text))
         yield complaint(folder, f"{folder.name}, plan {number}")
-    for what, other in (("empty", b""), ("comments alone", b"# a\n\n  # b\n"), ("no UTF-8", b"MoveTables \xff"), ("an open quote", b"MoveTables 'create")):
+    for what, other in NO_PLANS.items():
         path.write_bytes(other)
         yield complaint(folder, f"{folder.name}, a plan that is {what}", must_fail=True)
     path.unlink()
     yield complaint(folder, f"{folder.name}, without a plan", must_fail=True)
+
+
+def mixed(draw: random.Random, text: str) -> str:
+    """A plan with a few of its words in other places, or other words in theirs."""
+    words = text.replace("\n", " \n ").split(" ")
+    for _ in range(draw.randint(1, 4)):
+        at = draw.randrange(len(words))
+        words[at : at + draw.randint(0, 2)] = draw.choices([*WORDS, *words], k=draw.randint(0, 2))
+    return " ".join(words)

@@ -2,6 +2,7 @@
 from __future__ import annotations
 
 import difflib
+import functools
 import json
 import pathlib
 import re
@@ -21,6 +22,7 @@ REHEARSALS = TOP / "checks/rehearsals"
 REHEARSE = [sys.executable, str(TOP / "tools/rehearse")]
 PAGE = TOP / "docs/REHEARSE.md"
 OPERATING = TOP / "docs/OPERATING.md"
+KINDS = "KEYSPACE.vschema.json, KEYSPACE.shards.json or KEYSPACE.schema.json"
 VERDICTS = {0: "The plan can be run as it is", 1: "NOT AS PLANNED", 2: "CAN'T BE REHEARSED"}
 # Members whose own are names of the cluster.
 BY_NAME = ("shards", "reached", "refusing", "all_rules")
@@ -32,20 +34,26 @@ REFUSED: list[tuple[dict[str, str], str]] = [
     ({"routing_rules.json": '{"rules":[{"from_table":"a","to_tables":[]}]}'}, "routing_rules.json: rules[0]: the rule of a has no targets"),
     ({"routing_rules.json": '{"rules":[{"from_table":"a","to_tables":["b"]}]}'}, "routing_rules.json: rules[0]: the target b of a names no keyspace"),
     ({"routing_rules.json": '{"rules":[{"from_table":"a b","to_tables":["b.c"]}]}'}, "routing_rules.json: rules[0]: a name has something else"),
-    ({"routing_rules.json": '{"rules":[{"from_table":"a@x","to_tables":["b.c"]}]}'}, "routing_rules.json: rules[0]: `rule a@x b.c` is answered `refused N6 BadType`"),
+    ({"routing_rules.json": '{"rules":[{"from_table":"a@x","to_tables":["b.c"]}]}'}, "rules[0]: `rule a@x b.c` is answered `refused N6 BadType`"),
     ({"routing_rules.json": '{"rules":[{"from_table":1,"to_tables":["b.c"]}]}'}, "routing_rules.json: rules[0].from_table: should be a text, and is a number"),
     ({"routing_rules.json": '{"rules":'}, "routing_rules.json: line 1, column 10: no JSON"),
     ({"routing_rules.json": ""}, "routing_rules.json: is empty"),
     ({"commerce.shards.json": '{"-80":{},"80-":{}}'}, "commerce.shards.json has 2 shards, and commerce.vschema.json says that it isn't sharded"),
     ({"customer.shards.json": '{"-80":{}}'}, "the keyspace customer: `keyspace customer -80` is answered `refused N10 NotCovering`"),
     ({"customer.shards.json": '{"-8":{},"8-":{}}'}, "customer.shards.json: -8 is no key range"),
-    ({"customer.shards.json": '{"0":{"shard":{"tablet_controls":[{"tablet_type":"PRIMARY","denied_tables":["corder"]}]}}}'}, "customer.shards.json: 0 denies corder already"),
+    (
+        {"customer.shards.json": '{"0":{"shard":{"tablet_controls":[{"tablet_type":"PRIMARY","denied_tables":["corder"]}]}}}'},
+        "customer.shards.json: 0 denies corder already",
+    ),
     ({"plan.txt": "MoveTables --workflow w --target-keyspace customer switchtraffic"}, "plan.txt: line 1: no command of the plan creates the workflow w"),
     ({"plan.txt": "MoveTables --workflow w create --source-keyspace commerce"}, "plan.txt: line 1: MoveTables create needs --target-keyspace"),
     ({"plan.txt": "# nothing"}, "plan.txt: has no command"),
     ({"plan.txt": "MoveTables 'create"}, "plan.txt: line 1: No closing quotation"),
     ({"plan.txt": "MoveTables -w w --target-keyspace away create --source-keyspace commerce"}, "plan.txt: line 1: no document tells of the keyspace away"),
-    ({"plan.txt": "MoveTables -w w_reverse --target-keyspace customer create --source-keyspace commerce --tables corder"}, "mt answers `refused N5 ReservedSuffix`"),
+    (
+        {"plan.txt": "MoveTables -w w_reverse --target-keyspace customer create --source-keyspace commerce --tables corder"},
+        "mt answers `refused N5 ReservedSuffix`",
+    ),
     (
         {"commerce.shards.json": '{"-80":{},"80-":{}}', "commerce.vschema.json": '{"sharded":true,"tables":{"corder":{}}}'},
         "plan.txt: line 1: the source commerce has 2 shards, and mt moves tables out of a keyspace of one shard alone",
@@ -54,11 +62,19 @@ REFUSED: list[tuple[dict[str, str], str]] = [
 
 
 def folders() -> list[pathlib.Path]:
+    """The folders that are rehearsed."""
     return sorted(it for it in REHEARSALS.iterdir() if it.is_dir())
 
 
 def output(report: Report) -> str:
+    """What tools/rehearse prints of a report."""
     return "".join(f"{line}\n" for line in text_of(report, with_rules=False))
+
+
+@functools.lru_cache(maxsize=None)
+def rehearsed(folder: pathlib.Path, program: str) -> Report:
+    """The report of a folder, which is made once."""
+    return rehearse_folder(folder, program)
 
 
 def write(program: str) -> None:
@@ -70,7 +86,7 @@ def write(program: str) -> None:
 def outputs(program: str) -> Iterator[str | None]:
     """Where the output of a rehearsal isn't the one beside it, or its status another than its last lines say."""
     for folder in folders():
-        report = rehearse_folder(folder, program)
+        report = rehearsed(folder, program)
         got, want = output(report), folder.with_suffix(".output").read_text(encoding="utf-8")
         lines = difflib.unified_diff(want.splitlines(), got.splitlines(), "wanted", "printed", lineterm="", n=0)
         yield None if got == want else f"{folder.name}:\n    " + "\n    ".join(lines)
@@ -82,7 +98,7 @@ def documents(program: str) -> Iterator[str | None]:
     text = PAGE.read_text(encoding="utf-8").partition("## The rehearsal as a document")[2]
     told, found = set(re.findall(r"`([a-z_]+)`", text)), set()
     for folder in folders():
-        report = rehearse_folder(folder, program)
+        report = rehearsed(folder, program)
         document = json.loads(json.dumps(as_document(report)))
         found |= set(members(document))
         yield None if document["status"] == report.status else f"{folder.name}: the document has the status {document['status']}"
@@ -93,26 +109,25 @@ def documents(program: str) -> Iterator[str | None]:
 
 def members(value: object) -> Iterator[str]:
     """The names of all members of a document, but for those that are a cluster's own."""
-    for name, it in value.items() if isinstance(value, dict) else ():
-        yield name
-        yield from members(list(leaves(it)) if name in BY_NAME else it)
-    for it in value if isinstance(value, list) else ():
-        yield from members(it)
+    if isinstance(value, list):
+        yield from (name for it in value for name in members(it))
+    if isinstance(value, dict):
+        yield from value
+        yield from (name for key, it in value.items() for name in members(list(leaves(it)) if key in BY_NAME else it))
 
 
 def leaves(value: object) -> Iterator[object]:
-    """The objects of the form that a member by names has at its end."""
-    inner = value.values() if isinstance(value, dict) else ()
+    """The objects at the end of a member by names: what queries reached."""
     if isinstance(value, dict) and "answer" in value:
         yield value
-    for it in inner if "answer" not in (value if isinstance(value, dict) else ()) else ():
-        yield from leaves(it)
+    elif isinstance(value, dict):
+        yield from (leaf for it in value.values() for leaf in leaves(it))
 
 
 def scripts(program: str) -> Iterator[str | None]:
     """Where the script of a rehearsal leads to other rules than it tells, or a line of it is refused."""
     for folder in folders():
-        report = rehearse_folder(folder, program)
+        report = rehearsed(folder, program)
         if not report.commands:
             continue
         *answers, dump = Program(program, report.watchers).answers([*report.script, "dump"])
@@ -133,6 +148,7 @@ def quoted(program: str) -> Iterator[str | None]:
 
 
 def run(program: str, *words: str) -> subprocess.CompletedProcess:
+    """A run of tools/rehearse with these words."""
     return subprocess.run([*REHEARSE, *words, "--mt", program], stdout=subprocess.PIPE, stderr=subprocess.PIPE, text=True, timeout=120)
 
 
@@ -149,7 +165,7 @@ def command_lines(program: str) -> Iterator[str | None]:
         yield None if ended.returncode == 1 and json.loads(ended.stdout)["status"] == 1 else f"--json: status {ended.returncode}"
         ended = run(program, str(folder), "--rules")
         yield None if ended.stdout.count("GetRoutingRules {") == 3 and ended.returncode == 1 else f"--rules: {ended.stdout.count('GetRoutingRules {')} times"
-        yield wrong("an empty folder", run(program, room), 2, f"CAN'T BE REHEARSED: {room}: there is no KEYSPACE.vschema.json, KEYSPACE.shards.json or KEYSPACE.schema.json\n")
+        yield wrong("a folder without documents", run(program, str(TOP / "tools")), 2, f"CAN'T BE REHEARSED: {TOP}/tools: there is no {KINDS}\n")
         yield wrong("no folder", run(program, f"{room}/none"), 2, f"CAN'T BE REHEARSED: {room}/none: No such file or directory\n")
         yield wrong("no program", run(f"{room}/none", str(folder)), 2, "", "rehearse: ")
         yield wrong("no words", run(program), 2, "", "usage: tools/rehearse")
@@ -169,16 +185,23 @@ def pictures(program: str, folder: pathlib.Path, page: pathlib.Path) -> Iterator
 def refused_documents(program: str) -> Iterator[str | None]:
     """What can't be represented, as it is told."""
     for files, told in REFUSED:
-        with tempfile.TemporaryDirectory() as room:
-            here = pathlib.Path(room) / "it"
-            shutil.copytree(REHEARSALS / "one_table", here)
-            for name, text in files.items():
-                (here / name).write_text(text)
-            report = rehearse_folder(here, program)
+        report = rehearsed_with(files, program)
         yield None if told in (report.cannot or "") and report.status == 2 else f"{files}: status {report.status}, {report.cannot!r}; wanted {told!r}"
+
+
+def rehearsed_with(files: dict[str, str], program: str) -> Report:
+    """The report of checks/rehearsals/one_table with other files."""
+    with tempfile.TemporaryDirectory() as room:
+        here = pathlib.Path(room) / "it"
+        shutil.copytree(REHEARSALS / "one_table", here)
+        for name, text in files.items():
+            (here / name).write_text(text)
+        return rehearse_folder(here, program)
 
 
 def wrong(what: str, ended: subprocess.CompletedProcess, status: int, out: str | None, err: str = "") -> str | None:
     """What is wrong with a run, of which standard error must begin so."""
-    is_right = ended.returncode == status and out in (None, ended.stdout) and ended.stderr.startswith(err) and bool(err) == bool(ended.stderr) and "Traceback" not in ended.stderr
-    return None if is_right else f"{what}: status {ended.returncode}, wanted {status}; it prints {ended.stdout[:200]!r}, and on standard error {ended.stderr[-300:]!r}"
+    is_told = ended.stderr.startswith(err) and bool(err) == bool(ended.stderr) and "Traceback" not in ended.stderr
+    is_right = ended.returncode == status and out in (None, ended.stdout) and is_told
+    printed = f"it prints {ended.stdout[:200]!r}, and on standard error {ended.stderr[-300:]!r}"
+    return None if is_right else f"{what}: status {ended.returncode}, wanted {status}; {printed}"

@@ -5,14 +5,16 @@ import json
 import pathlib
 import random
 import tempfile
+from collections.abc import Iterable
 
 from mt_rehearsal.rehearse import rehearse_folder
-from mt_rehearsal.report import CommandReport, Report
+from mt_rehearsal.report import CommandReport, Report, WayBack
 from mt_runs.program import Program
 
 SOURCE, OTHERS = "commerce", ("customer", "us-east_2")
 TABLES = ("corder", "cart", "a-b$1", "_items")
-SHARDS = {1: ["0"], 2: ["-80", "80-"], 4: ["-40", "40-80", "80-c0", "c0-"], 16: [f"{f'{at:x}0' if at else ''}-{f'{at + 1:x}0' if at < 15 else ''}" for at in range(16)]}
+CUTS = ["", *(f"{at:x}0" for at in range(1, 16)), ""]
+SHARDS = {1: ["0"], 2: ["-80", "80-"], 4: ["-40", "40-80", "80-c0", "c0-"], 16: [f"{start}-{end}" for start, end in zip(CUTS, CUTS[1:])]}
 TYPES = ("", "", "", "", "--tablet-types primary", "--tablet-types replica,rdonly", "--tablet-types rdonly", "--tablet-types primary,replica")
 # What may follow a create or a reversal, and a switch.
 BEFORE = ("switchtraffic",) * 5 + ("reversetraffic", "cancel", "complete")
@@ -26,9 +28,13 @@ class Drawn:
         self.draw = random.Random(number)
         self.files: dict[str, object] = {}
         self.targets = {name: self.draw.choice(OTHERS) for name in ("w1", "w2")}
-        self.files[f"{SOURCE}.vschema.json"] = self.vschema(TABLES, [0])
+        # w3 brings back what w1 moved
+        self.targets["w3"] = SOURCE
+        self.sources = {"w1": SOURCE, "w2": SOURCE, "w3": self.targets["w1"]}
+        self.shards: dict[str, list[str]] = {}
+        self.files[f"{SOURCE}.vschema.json"] = self.vschema(TABLES, SHARDS[1])
         for name in OTHERS:
-            shards = SHARDS[self.draw.choice([1, 1, 1, 2, 2, 4, 16])]
+            shards = self.shards[name] = SHARDS[self.draw.choice([1, 1, 1, 2, 2, 4, 16])]
             listed = [it for it in TABLES if self.draw.random() < 0.3]
             self.files[f"{name}.vschema.json"] = self.vschema(listed, shards)
             self.files[f"{name}.shards.json"] = {it: {"shard": {"isPrimaryServing": True}} for it in shards}
@@ -38,7 +44,8 @@ class Drawn:
         self.files["routing_rules.json"] = {"rules": [{"fromTable": key, "toTables": [to]} for key, to in self.rules().items()]}
         self.plan = self.commands()
 
-    def vschema(self, tables: object, shards: list) -> dict:
+    def vschema(self, tables: Iterable[str], shards: list[str]) -> dict:
+        """A keyspace's VSchema."""
         return {"sharded": len(shards) > 1, "tables": {it: {} for it in tables}, "require_explicit_routing": self.draw.random() < 0.5}
 
     def rules(self) -> dict[str, str]:
@@ -52,14 +59,16 @@ class Drawn:
         return found
 
     def commands(self) -> list[str]:
-        """A create of each workflow, at first or behind other commands, and some commands on both."""
+        """A create of each workflow, at first or behind other commands, and some commands on them."""
         tables = list(TABLES)
         self.draw.shuffle(tables)
         lists = {"w1": tables[: self.draw.randint(1, 2)], "w2": tables[self.draw.randint(1, 2) :][:2]}
+        lists["w3"] = lists["w1"]
         last = {"w1": "create"}
         found = [self.create("w1", lists["w1"])]
-        for _ in range(self.draw.randint(1, 4)):
-            workflow = self.draw.choice(["w1", "w1", "w2"])
+        for _ in range(self.draw.randint(1, 5)):
+            is_back = last["w1"] == "complete" and len(self.shards[self.targets["w1"]]) == 1
+            workflow = self.draw.choice(["w3"] if is_back else ["w1", "w1", "w2"])
             action = self.draw.choice(BEHIND if last.get(workflow) == "switchtraffic" else BEFORE)
             if workflow not in last or self.draw.random() < 0.1:
                 action = "create"
@@ -70,9 +79,12 @@ class Drawn:
         return found
 
     def create(self, workflow: str, tables: list[str]) -> str:
-        return f"MoveTables --workflow {workflow} --target-keyspace {self.targets[workflow]} create --source-keyspace {SOURCE} --tables {','.join(tables)}"
+        """A command that creates a workflow."""
+        named = f"MoveTables --workflow {workflow} --target-keyspace {self.targets[workflow]}"
+        return f"{named} create --source-keyspace {self.sources[workflow]} --tables {','.join(tables)}"
 
     def write(self, folder: pathlib.Path) -> None:
+        """Writes the documents and the plan."""
         for name, document in self.files.items():
             (folder / name).write_text(json.dumps(document))
         (folder / "plan.txt").write_text("".join(f"{it}\n" for it in self.plan))
@@ -105,6 +117,7 @@ class Told:
         return json.loads(self.program.answers([*self.report.script[:lines], *more, "dump"])[-1])
 
     def complaints(self, command: CommandReport) -> list[str]:
+        """What is told of a command that isn't so."""
         if command.outcome != "done":
             return []
         found = [f"command {command.number}: {', '.join(way.commands)} doesn't return" for way in command.ways_back if not self.returns(command, way)]
@@ -116,7 +129,7 @@ class Told:
         wrong = [it for it, answer in zip(asked, answers) if it[3].is_served == answer.startswith("refused")]
         return found + [f"command {command.number}: a query by {name}@{kind} is told as {met.answer}" for name, kind, _, met in wrong]
 
-    def returns(self, command: CommandReport, way: object) -> bool:
+    def returns(self, command: CommandReport, way: WayBack) -> bool:
         """Whether a way back that is told leads where it is told to."""
         if way.answer != "ok":
             return command.has_ended and way.answer == "refused F7 NoWorkflow"

@@ -21,7 +21,10 @@ SESSION = TOP / "checks/prompt.session"
 ASKS = "mt> "
 LONGEST = 60  # seconds until an answer
 # Words that are typed with Tab, and the line that they become; each behind the lines of SETTING.
-SETTING = ["keyspace commerce", "keyspace customer -80,80-", "table commerce corder", "table commerce cart", "rule old commerce.corder", "create mv commerce customer corder"]
+SETTING = [
+    *("keyspace commerce", "keyspace customer -80,80-", "table commerce corder", "table commerce cart"),
+    *("rule old commerce.corder", "create mv commerce customer corder"),
+]
 TABS = {
     "sho\tm\t": "show mv ",
     "get old\t1": "get old 1",
@@ -81,6 +84,10 @@ class Terminal:
         self.echo, _, behind = self.read().replace("\a", "").partition("\n")
         return behind
 
+    def type_each(self, lines: list[str]) -> list[str]:
+        """What is printed behind each of some lines."""
+        return [self.type(line) for line in lines]
+
     def interrupt(self) -> str:
         """What is printed behind Ctrl-C. One that comes while readline looks at another byte waits for the next, so it is sent again."""
         said = ""
@@ -132,9 +139,9 @@ def difference(what: str, want: str, ended: subprocess.CompletedProcess) -> str 
 def at_a_terminal(program: str) -> Iterator[str | None]:
     """What the session prints otherwise at a terminal; what Tab makes of a line; and how it ends."""
     terminal = Terminal(program)
-    for line, behind in session():
+    told = session()
+    for (line, behind), got in zip(told, terminal.type_each([line for line, _ in told])):
         want = "".join(f"{it}\n" for it in behind) + ASKS
-        got = terminal.type(line)
         yield None if got == want else f"at a terminal, {line}: {got!r}; wanted {want!r}"
     os.write(terminal.master, b"half a line")
     got = terminal.interrupt()
@@ -150,8 +157,7 @@ def tabs(program: str) -> Iterator[str | None]:
         print("note: Tab isn't tried, as this Python has no readline")
         return
     terminal = Terminal(program)
-    for it in SETTING:
-        terminal.type(it)
+    terminal.type_each(SETTING)
     for typed, line in TABS.items():
         terminal.type(typed)
         yield None if terminal.echo == line else f"{typed!r} becomes {terminal.echo!r} by Tab; wanted {line!r}"
@@ -159,6 +165,7 @@ def tabs(program: str) -> Iterator[str | None]:
 
 
 def has_readline() -> bool:
+    """Whether this Python completes words by Tab."""
     return importlib.util.find_spec("readline") is not None
 
 

@@ -1,12 +1,10 @@
 """Wrong answers, planted: in programs that tools/rehearse and tools/prompt run in the place of `mt`, and in the tools themselves."""
 from __future__ import annotations
 
+import contextlib
 import pathlib
-import stat
-import subprocess
-import sys
 import tempfile
-from collections.abc import Iterator
+from collections.abc import Callable, Iterator
 from unittest import mock
 
 import tools_outputs
@@ -16,60 +14,80 @@ from mt_rehearsal import rehearse, switching, ways_back
 from mt_rehearsal.moved import Moved
 from mt_rehearsal.report import SameAs, Undo, WayBack
 from mt_rehearsal.switching import Switching
-from mt_runs.program import ProgramFailed
+from mt_runs.program import Program, ProgramFailed, is_silent
 from mt_runs.topology import Topology
 
-# A program that runs another one and changes what it answers: `lines` and `answers` of the same length, which `change` gets and may edit.
-WRAPPER = '''#!{python}
-import subprocess, sys
-given = sys.stdin.buffer.read()
-ended = subprocess.run([{program!r}, *sys.argv[1:]], input=given, stdout=subprocess.PIPE)
-lines = [it for it in given.decode().split("\\n") if it.strip() and not it.startswith("#")]
-answers = ended.stdout.decode().split("\\n")[:-1]
-status = ended.returncode
-{change}
-sys.stdout.write("".join(it + "\\n" for it in answers))
-sys.exit(status)
-'''
-# What is changed, and what the rehearsal of two_shards tells then: a part of its output, or of the reason why it ends.
-CHANGES = {
-    "answers = answers[:-1]": "lines",
-    "answers += ['ok']": "lines",
-    "status = 1": "ended with status 1",
-    "answers = [it.replace('switched', 'swapped') for it in answers]": "show was answered otherwise",
-    "answers = [it.replace('\"rules\"', '\"ruled\"') for it in answers]": "dump was answered otherwise",
-    "answers = [it.replace('events', 'event') for it in answers]": "to a turn of a stream",
-    "answers = ['row stale' if line.startswith('get corder@replica') else it for line, it in zip(lines, answers)]": "mt answers `row stale` to a read by corder@replica",
-    "answers = ['refused F27 Full' if line.startswith('step mv') or line.startswith('step orders') else it for line, it in zip(lines, answers)]": "mt answers `refused F27 Full` to `step orders 0`",
-    "answers = [it.replace('commerce.corder', 'commerce.cart') if any(x.startswith('undo') for x in lines) else it for it in answers]": "an undo behind `begun` leads to another topology",
-    "answers = [it.replace('\"denied\":[]', '\"denied\":[\"commerce.corder\"]') if lines[-2].startswith('cancel') else it for it in answers]": "the way back cancel leads to another topology",
-}
+Answers = list[str]
+# What a program does to the answers to lines, and what the rehearsal tells then: a part of its problems, or of the reason why it ends.
+CHANGES: list[tuple[str, Callable[[list[str], Answers], Answers], str]] = [
+    ("leaves out the last one", lambda lines, answers: answers[:-1], "lines"),
+    ("answers once more", lambda lines, answers: [*answers, "ok"], "lines"),
+    ("has other words in show", lambda lines, answers: [it.replace("switched", "swapped") for it in answers], "show was answered otherwise"),
+    ("has other members in dump", lambda lines, answers: [it.replace('"rules"', '"ruled"') for it in answers], "dump was answered otherwise"),
+    ("has other words on a turn", lambda lines, answers: [it.replace("events", "event") for it in answers], "to a turn of a stream"),
+    (
+        "answers a read by name with another row",
+        lambda lines, answers: ["row stale" if line.startswith("get corder@replica") else it for line, it in zip(lines, answers)],
+        "mt answers `row stale` to a read by corder@replica",
+    ),
+    (
+        "refuses a step",
+        lambda lines, answers: ["refused F27 Full" if line.startswith("step ") else it for line, it in zip(lines, answers)],
+        "mt answers `refused F27 Full` to `step orders 0`",
+    ),
+    (
+        "doesn't give back by an undo",
+        lambda lines, answers: [it.replace("commerce.corder", "commerce.cart") for it in answers] if lines[-2:][0].startswith("undo") else answers,
+        "an undo behind `begun` leads to another topology",
+    ),
+    (
+        "doesn't give back by a cancel",
+        lambda lines, answers: [it.replace('"denied":[]', '"denied":["commerce.corder"]') for it in answers] if lines[-2:][0].startswith("cancel") else answers,
+        "the way back cancel leads to another topology",
+    ),
+]
+ENDS_EARLY = """#!/bin/sh
+script=$(cat)
+case $script in *boom*) exit 1 ;; esac
+printf '%s\\n' "$script" | {program} "$@"
+"""
 
 
-def wrapped(room: str, program: str, change: str) -> str:
-    """A program whose answers are changed."""
-    path = pathlib.Path(room) / "wrong"
-    path.write_text(WRAPPER.format(python=sys.executable, program=program, change=change))
-    path.chmod(path.stat().st_mode | stat.S_IXUSR)
-    return str(path)
+def wrong_program(change: Callable[[list[str], Answers], Answers]) -> contextlib.AbstractContextManager:
+    """A time in which all programs answer wrongly."""
+    right = Program._output
+
+    def changed(self: Program, script: bytes) -> str:
+        """What a run prints then."""
+        lines = [it for it in script.decode().split("\n") if not is_silent(it)]
+        return "".join(f"{it}\n" for it in change(lines, right(self, script).split("\n")[:-1]))
+
+    return mock.patch.object(Program, "_output", changed)
 
 
 def programs(program: str) -> Iterator[str | None]:
     """Which programs that answer wrongly aren't told apart, and what the prompt says of one that ends in the middle."""
-    folder = tools_outputs.REHEARSALS / "two_shards"
-    for change, wanted in CHANGES.items():
-        with tempfile.TemporaryDirectory() as room:
-            try:
-                report = rehearse.rehearse_folder(folder, wrapped(room, program, change))
-                told = f"{report.cannot} {report.problems}"
-            except ProgramFailed as error:
-                told = str(error)
-        yield None if wanted in told else f"a program with `{change}`: {told[:300]}; wanted {wanted}"
+    folder = tools_outputs.REHEARSALS / "stops_in_the_middle"
+    for what, change, wanted in CHANGES:
+        with wrong_program(change):
+            told = ended_with(folder, program)
+        yield None if wanted in told else f"a program that {what}: {told[:300]}; wanted {wanted}"
     with tempfile.TemporaryDirectory() as room:
-        ended = tools_prompt.piped(wrapped(room, program, "status = int('boom' in given.decode())"), b"keyspace a\nboom\nkeyspace a\nlines\n")
+        path = pathlib.Path(room) / "ends_early"
+        path.write_text(ENDS_EARLY.format(program=program))
+        path.chmod(0o755)
+        got = tools_prompt.piped(str(path), b"keyspace a\nboom\nkeyspace a\nlines\n").stdout.decode()
     want = "ended with status 1: it said nothing\nrefused F30 Exists\n"
-    got = ended.stdout.decode()
-    yield None if want in got and got.endswith("\nkeyspace a\n") and not ended.stderr else f"a prompt whose program ends in the middle prints {got!r}"
+    yield None if want in got and got.endswith("\nkeyspace a\n") else f"a prompt whose program ends early prints {got!r}"
+
+
+def ended_with(folder: pathlib.Path, program: str) -> str:
+    """What is told of a rehearsal that doesn't go as planned."""
+    try:
+        report = rehearse.rehearse_folder(folder, program)
+        return f"{report.cannot} {report.problems}"
+    except ProgramFailed as error:
+        return str(error)
 
 
 def planted(program: str) -> Iterator[str | None]:
@@ -86,7 +104,7 @@ def planted(program: str) -> Iterator[str | None]:
     yield unseen("a step doesn't wait", unfed, lambda: differing(program, "two_shards"))
 
 
-def unseen(what: str, fault: object, sees: object) -> str | None:
+def unseen(what: str, fault: contextlib.AbstractContextManager, sees: Callable[[], bool]) -> str | None:
     """Complains if a fault that is planted isn't seen."""
     with fault:
         try:

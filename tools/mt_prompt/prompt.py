@@ -5,7 +5,7 @@ import os
 import pathlib
 from collections.abc import Callable, Iterable, Iterator, Sequence
 
-from mt_prompt.typed import TypedScript, running_streams
+from mt_prompt.typed import TypedScript, running_streams, without_comment
 from mt_runs.program import ProgramFailed, is_silent
 from mt_runs.refusals import ScriptPage
 from mt_runs.shards import first_key
@@ -49,15 +49,15 @@ class Prompt:
     def answer(self, line: str) -> Iterator[str]:
         """What to print behind a line. A run that fails is told, and the line isn't kept."""
         line = line.strip()
-        words = line.split()
+        words = without_comment(line)
         own = self._own.get((words[0], len(words))) if words else None
         try:
             if is_silent(line):
                 self.script.lines += [line] if line else []
-            elif words[0] == "help":
-                yield from self._help(" ".join(words[1:]))
             elif own:
                 yield from own(words)
+            elif words[0] == "help":
+                yield from self._help(" ".join(words[1:]))
             else:
                 yield from self._of_language(line)
         except ProgramFailed as error:

@@ -1,6 +1,7 @@
 """The script that is typed line by line, and what the program answers to each line of it."""
 from __future__ import annotations
 
+import itertools
 import os
 from collections.abc import Iterator, Sequence
 
@@ -38,7 +39,7 @@ class TypedScript:
     def take(self, line: str) -> str:
         """The answer to a line, which is kept unless it is refused. A comment behind it, which the language has none of, is left out."""
         read = line
-        for read in _without_comment(line):
+        for read in _readings(line):
             answer = self.ask([read])[0]
             if answer not in UNREAD:
                 break
@@ -64,12 +65,12 @@ class TypedScript:
 
         `advance W` is a turn of each stream that runs. Where `show` gives no number it is 0, and the program says why. Any other line stands for itself.
         """
-        words = line.split()
+        words = without_comment(line)
         if (words[0], len(words)) not in (("advance", 2), ("advance", 3), ("step", 2), ("undo", 2)):
             return [line]
         move = self.move(words[1])
         if words[0] != "advance":
-            return [f"{line} {move.way.done if move and move.way else 0}"]
+            return [f"{words[0]} {words[1]} {move.way.done if move and move.way else 0}"]
         streams = running_streams(move) if move else {}
         asked = words[2:] or list(streams) or ["forward"]
         return [f"advance {words[1]} {stream} {streams.get(stream, 0)} 100" for stream in asked]
@@ -106,7 +107,13 @@ def _done(answer: str) -> tuple[int, int]:
     return int(words[1]), int(words[3])
 
 
-def _without_comment(line: str) -> Iterator[str]:
+def without_comment(line: str) -> list[str]:
+    """The words of a line that isn't silent, up to the first behind it that begins with `#`. A line of the language may have a value that begins so."""
+    first, *words = line.split() or [""]
+    return [first, *itertools.takewhile(lambda it: not it.startswith("#"), words)] if first else []
+
+
+def _readings(line: str) -> Iterator[str]:
     """A line as it stands, and then without what may be a comment: from a word on that begins with `#`, the last one first.
 
     `#` may begin a value too. So the longest of them that the language reads is the line.

@@ -39,6 +39,7 @@ class Beginning:
         self.creates = [it for it in plan if it.is_rehearsed and it.action == CREATE]
         self.keyspaces = self._chosen()
         self.shards = {it.name: self._shards(it) for it in self.keyspaces}
+        self.tables = {it.name: self._present_tables(it) for it in self.keyspaces}
         self.moves = {it.number: self._moved(it) for it in self.creates}
 
     def keyspace(self, name: str) -> Keyspace:
@@ -77,6 +78,8 @@ class Beginning:
         strange = dict.fromkeys(it for it in led_to if it not in there)
         self.report.warn(Warned("document", f"no document tells of the keyspace {it}, to which a rule leads: it is taken as not there") for it in strange)
         order = [it for it in dict.fromkeys([*(side for side, _ in sides), *led_to, *there]) if it in there]
+        if len({side for side, _ in sides}) > MOST_WATCHERS:
+            raise CannotRehearse(f"{PLAN}: its moves are of more than {MOST_WATCHERS} keyspaces, for which mt has room")
         if len(order) > MOST_WATCHERS:
             self.report.warn([Warned("left out", f"keyspaces are left out, as mt has room for {MOST_WATCHERS}: {', '.join(order[MOST_WATCHERS:])}")])
         return [there[name] for name in order[:MOST_WATCHERS]]
@@ -115,22 +118,28 @@ class Beginning:
             raise CannotRehearse(f"{where}: the source {source.name} has {count} shards, and mt moves tables out of a keyspace of one shard alone")
         tables = tuple(self._tables(command, source))
         for keyspace in (source, target):
-            self._see_denials(where, keyspace, tables)
+            self._require_no_denials(where, keyspace, tables)
         shards = self.shards[target.name]
         keys = {shard: first_key(shard) for shard in shards}
         aliases = {it: self._aliases(it, source.name, target.name) for it in tables}
-        return Moved(command.workflow, source.name, target.name, tables, shards, keys, self.shards[source.name]["-"], aliases)
+        source_shard = next(iter(self.shards[source.name].values()))
+        return Moved(command.workflow, source.name, target.name, tables, shards, keys, source_shard, aliases)
 
     def _tables(self, command: Command, source: Keyspace) -> Iterator[str]:
         """The tables of a `create`, each once."""
-        asked = source.tables if "all-tables" in command.flags else command.named("tables")
+        is_all = "all-tables" in command.flags
+        if is_all and source.present is None:
+            told = f"command {command.number} moves all tables of {source.name}: taken as those of its VSchema"
+            self.report.warn([Warned("document", f"{told}, as there is no {source.name}.schema.json that says which tables are there")])
+        made = {table for it in self.creates if it.number < command.number and it.target == source.name for table in it.named("tables")}
+        asked = source.tables if is_all else command.named("tables")
         for table in dict.fromkeys(it for it in asked if it not in command.named("exclude-tables")):
-            if source.present is None and table not in (source.listed or ()):
+            if source.present is None and table not in (*(source.listed or ()), *made):
                 told = f"{source.name}.vschema.json doesn't list {table}, and there is no {source.name}.schema.json that says which tables are there"
                 raise CannotRehearse(f"{PLAN}: line {command.line}: {told}")
             yield table
 
-    def _see_denials(self, where: str, keyspace: Keyspace, tables: Sequence[str]) -> None:
+    def _require_no_denials(self, where: str, keyspace: Keyspace, tables: Sequence[str]) -> None:
         """Raises `CannotRehearse` if a shard denies a table that moves; of others it is told that their denials are left out."""
         for shard in keyspace.shards or ():
             denied = {table for control in shard.controls for table in control.tables}
@@ -152,11 +161,24 @@ class Beginning:
             needed, others = self._tables_of(keyspace)
             yield from (Line(("table", name, it), f"the table {name}.{it}", it in others) for it in (*needed, *others))
 
+    def _present_tables(self, keyspace: Keyspace) -> tuple[str, ...]:
+        """The tables of a keyspace that are there before the plan. Where no document says so, those that its VSchema lists, but for those that a move of
+        the plan is to make: the first move that has the table goes to this keyspace."""
+        if keyspace.present is not None:
+            return keyspace.present
+        firsts: dict[str, Command] = {}
+        for command, table in ((it, table) for it in self.creates if keyspace.name in (it.source, it.target) for table in it.named("tables")):
+            firsts.setdefault(table, command)
+        # a move of all tables names none of them
+        is_made = any(it.target == keyspace.name and "all-tables" in it.flags for it in self.creates)
+        listed = keyspace.listed or ()
+        return tuple(it for it in listed if (firsts[it].target != keyspace.name if it in firsts else not is_made))
+
     def _tables_of(self, keyspace: Keyspace) -> tuple[list[str], list[str]]:
-        """The tables of a keyspace on which the rehearsal depends, and the others as far as there is room. Those that a move is to make aren't there yet."""
+        """The tables of a keyspace on which the rehearsal depends, and the others as far as there is room."""
         made = {table for it in self.moves.values() if it.target == keyspace.name for table in it.tables}
         moved = {table for it in self.moves.values() for table in it.tables}
-        tables = [it for it in keyspace.tables if keyspace.present is not None or it not in made]
+        tables = self.tables[keyspace.name]
         needed, others = [it for it in tables if it in moved], [it for it in tables if it not in moved]
         room = MOST_TABLES - len(needed) - len(made)
         if len(others) > room:
@@ -177,8 +199,8 @@ class Beginning:
             yield Line(("rule", rule.key, rule.targets[0]), rule.place)
 
     def _row_lines(self) -> Iterator[Line]:
-        """A row for each shard of the target of each table that moves and that is there."""
-        there = {it.name: it.tables for it in self.keyspaces}
-        rows = [(it.source, table, key) for it in self.moves.values() for table in it.tables if table in there[it.source] for key in it.keys.values()]
-        for source, table, key in dict.fromkeys(rows):
+        """A row for each shard of each target to which a table moves, at each source where it is there."""
+        keys = [(table, key) for it in self.moves.values() for table in it.tables for key in it.keys.values()]
+        sources = [(it.source, table) for it in self.moves.values() for table in it.tables if table in self.tables[it.source]]
+        for source, table, key in dict.fromkeys((source, table, key) for source, table in sources for of, key in keys if of == table):
             yield Line(("at", f"{source}.{table}", "insert", str(key), "sample"), f"a sample row of {source}.{table}")

@@ -1,7 +1,7 @@
 """What `vtctldclient` printed of a cluster, read from the files of a folder.
 
-The layouts are those of Vitess's documentation: members are read in either spelling (`from_table`, `fromTable`), and those that mean nothing here are passed
-over. No document was compared with one of a live cluster; docs/VITESS.md says which commands print them.
+The layouts are those of Vitess's documentation: members are read in either spelling (`from_table`, `fromTable`), tablet types as a word or as a number, and
+members that mean nothing here are passed over. No document was compared with one of a live cluster; docs/VITESS.md says which commands print them.
 """
 from __future__ import annotations
 
@@ -15,6 +15,7 @@ from mt_rehearsal.documents import CannotRehearse, Value, read_document
 OF_KEYSPACE = re.compile(r"([^.]+)\.(vschema|shards|schema)\.json")
 AFTER_RULES = re.compile(r"after-(\d+)\.routing_rules\.json")
 AFTER_SHARD = re.compile(r"after-(\d+)\.([^.]+)\.([^.]+)\.json")
+TABLET_TYPES = {1: "PRIMARY", 2: "REPLICA", 3: "RDONLY"}  # the numbers by which vtctldclient may print them
 RULES, KEYSPACES, PLAN = "routing_rules.json", "keyspaces.json", "plan.txt"
 
 
@@ -200,8 +201,14 @@ def _controls(record: Value) -> tuple[Control, ...]:
     for it in record.member("tablet_controls", "tabletControls").items():
         tables = tuple(table.text() for table in it.member("denied_tables", "deniedTables").items())
         if tables:
-            found.append(Control(it.member("tablet_type", "tabletType").text().upper(), tables))
+            found.append(Control(_tablet_type(it.member("tablet_type", "tabletType")), tables))
     return tuple(found)
+
+
+def _tablet_type(value: Value) -> str:
+    """A tablet type in capitals, which may be written as its number."""
+    is_number = isinstance(value.data, int) and not isinstance(value.data, bool)
+    return TABLET_TYPES.get(value.data, str(value.data)) if is_number else value.text().upper()
 
 
 def _rules(document: Value) -> tuple[Rule, ...]:

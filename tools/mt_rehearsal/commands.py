@@ -32,12 +32,15 @@ DEPARTS = {
     "rename-tables": "the cluster renames the tables that are dropped here",
     "keep-routing-rules": "the cluster keeps the rules that are taken away here",
     "no-routing-rules": "the cluster doesn't write the rules that are written here",
-    "stop-after-copy": "the cluster's stream stops behind the copy, and goes on here",
+    "stop-after-copy": "the cluster's streams stop behind the copy, and go on here",
+    "auto-start": "the cluster's streams wait for a start, and run here",
     "enable-reverse-replication": "without the streams back there is no way back by reversetraffic on the cluster",
     "cells": "the cluster changes the traffic of these cells alone, and all is changed here",
     "shards": "the cluster does it on these shards alone, and on all here",
     "source-shards": "the cluster does it from these shards alone, and from all here",
 }
+# Of these flags the value that changes nothing; of the others it is false.
+WITHOUT_EFFECT = {"auto-start": "true", "enable-reverse-replication": "true"}
 WORD = re.compile(r"[!-~]+")
 KINDS = re.compile(r"[A-Z][A-Za-z]+")
 BETWEEN = ("&&", ";", "||", "&")
@@ -82,7 +85,7 @@ class Command:
     @property
     def departures(self) -> list[str]:
         """What the cluster does otherwise by flags that have no meaning here."""
-        return [f"--{it}: {DEPARTS[it]}" for it in self.flags if it in DEPARTS]
+        return [f"--{it}: {DEPARTS[it]}" for it, value in self.flags.items() if it in DEPARTS and value != WITHOUT_EFFECT.get(it, "false")]
 
     @property
     def workflow(self) -> str:
@@ -123,11 +126,11 @@ def read_plan(folder: pathlib.Path) -> list[Command]:
         raise CannotRehearse(f"{PLAN}: has no command")
     targets = {it.workflow: it for it in reversed(commands) if it.is_rehearsed and it.action == CREATE}
     for it in filter(lambda it: it.is_rehearsed, commands):
-        _see_workflow(it, targets)
+        _require_workflow(it, targets)
     return commands
 
 
-def _see_workflow(command: Command, created: Mapping[str, Command]) -> None:
+def _require_workflow(command: Command, created: Mapping[str, Command]) -> None:
     """Raises `CannotRehearse` if mt can't tell which workflow a command is of; the first `create` of each is given."""
     where = f"{PLAN}: line {command.line}"
     first = created.get(command.workflow)
@@ -140,6 +143,7 @@ def _see_workflow(command: Command, created: Mapping[str, Command]) -> None:
     bad = next((it for it in command.names if not WORD.fullmatch(it)), None)
     if bad is not None:
         raise CannotRehearse(f"{where}: {bad!r} is no name: mt's are of visible ASCII characters")
+
 
 def _logical_lines(text: str) -> Iterator[tuple[int, str]]:
     """The lines that aren't blank and no comments, each with those that a `\\` at its end joins to it, and the number of its first one."""

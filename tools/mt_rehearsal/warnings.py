@@ -17,7 +17,7 @@ def of_documents(beginning: Beginning) -> Iterator[Warned]:
     for move in beginning.moves.values():
         target = beginning.keyspace(move.target)
         listed = [it for it in move.tables if it in (target.listed or ())]
-        yield from _of_listed(target, listed)
+        yield from _of_planned(target, [it for it in listed if it not in beginning.tables[target.name]])
         yield from _of_rivals(beginning, target, listed)
         yield from _of_vindexes(target, move)
 
@@ -49,10 +49,10 @@ def _of_denials(keyspace: Keyspace) -> Iterator[Warned]:
         yield Warned("denied", f"{told}, and no line of mt denies a table by hand: they count as allowed")
 
 
-def _of_listed(target: Keyspace, listed: list[str]) -> Iterator[Warned]:
-    """Of tables that the target's VSchema lists, while no document says which tables are there."""
-    if listed and target.present is None:
-        told = f"the VSchema of {target.name} lists {', '.join(listed)}: taken as planned and not yet made"
+def _of_planned(target: Keyspace, planned: list[str]) -> Iterator[Warned]:
+    """Of tables that the target's VSchema lists and that count as not yet there, as no document says which are."""
+    if planned and target.present is None:
+        told = f"the VSchema of {target.name} lists {', '.join(planned)}: taken as planned and not yet made"
         yield Warned("listed", f"{told}, as there is no {target.name}.schema.json that says which tables are there")
 
 
