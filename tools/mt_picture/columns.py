@@ -24,8 +24,8 @@ def refusal_name(answer: str) -> str | None:
 def folded(script: Script, answers: Sequence[str]) -> list[range]:
     """The places of the lines of each column.
 
-    The lines in front of the first `create` are one. Behind it each line is one; but in a script of many lines neighbouring lines of clients, or turns of streams,
-    that were all answered, or all refused alike, share one. Raises `CannotDraw` where these are too many.
+    The lines in front of the first `create` are one. Behind it each line is one; but in a script of many lines neighbouring lines of clients, or turns of
+    streams, that were all answered, or all refused alike, share one. Raises `CannotDraw` where these are too many.
     """
     starts = [*_starts(script, answers), len(script.lines)]
     if len(starts) - 1 > MOST_COLUMNS:

@@ -61,9 +61,10 @@ def draw(pairs: list[tuple[pathlib.Path, pathlib.Path]]) -> None:
         raise DrawingFailed(f"{words[0]} couldn't draw: {ended.stderr.strip()[-500:]}")
 
 
-def draw_text(facts: str, svg: pathlib.Path) -> None:
-    """Draws facts, given as JSON, to a file of SVG. Raises `DrawingFailed`, as `draw` does."""
+def svg_text(facts: str) -> str:
+    """The picture of facts, given as JSON. Raises `DrawingFailed`, as `draw` does."""
     with tempfile.TemporaryDirectory() as folder:
-        path = pathlib.Path(folder) / "facts.json"
+        path, svg = pathlib.Path(folder) / "facts.json", pathlib.Path(folder) / "picture.svg"
         path.write_text(facts, encoding="utf-8")
         draw([(path, svg)])
+        return svg.read_text(encoding="utf-8")
