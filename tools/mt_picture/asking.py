@@ -6,8 +6,8 @@ from collections.abc import Mapping, Sequence
 from dataclasses import dataclass
 from typing import NamedTuple
 
-from mt_picture.moves import Begun
 from mt_picture.facts import StreamFacts
+from mt_picture.moves import Begun
 from mt_runs.program import Program, ProgramFailed, is_refusal
 from mt_runs.shards import first_key
 from mt_runs.show import TYPES, Move, parse_show, stream_word
