@@ -62,8 +62,7 @@ class Rehearsal:
         topology = self.session.topology()
         for command in plan:
             topology = self._command(command, topology)
-        unknown = [it for it in self.beginning.cluster.seen if not 0 < it <= len(plan)]
-        self.report.warn(Warned("document", f"after-{it}: the plan has no command {it}") for it in unknown)
+        self.report.warn(warnings.of_seen(self.beginning.cluster, len(plan)))
 
     def _command(self, command: Command, before: Topology) -> Topology:
         """Rehearses a command; gives the topology behind it."""

@@ -4,7 +4,7 @@ from __future__ import annotations
 from collections.abc import Iterator
 
 from mt_rehearsal.beginning import Beginning
-from mt_rehearsal.cluster import Keyspace, Rule
+from mt_rehearsal.cluster import Cluster, Keyspace, Rule, Seen
 from mt_rehearsal.moved import Moved
 from mt_rehearsal.report import Warned
 
@@ -29,6 +29,22 @@ def of_rules(beginning: Beginning, move: Moved) -> Iterator[Warned]:
     for rule in beginning.cluster.rules:
         if rule.targets[0] in places:
             yield _of_rule(rule, rule.key in own, rule.targets[0].startswith(f"{move.source}."))
+
+
+def of_seen(cluster: Cluster, commands: int) -> Iterator[Warned]:
+    """What was kept of the real cluster and is compared with nothing, of a plan of so many commands."""
+    for number, seen in cluster.seen.items():
+        if not 0 < number <= commands:
+            yield Warned("document", f"after-{number}: the plan has no command {number}")
+        yield from (Warned("document", f"after-{number}.{it}: there is no such shard") for it in _unknown_shards(cluster, seen))
+
+
+def _unknown_shards(cluster: Cluster, seen: Seen) -> Iterator[str]:
+    for name, shard in seen.shards:
+        keyspace = cluster.keyspaces.get(name)
+        known = {"-", "0"} if keyspace and keyspace.shards is None else {it.name for it in (keyspace.shards or () if keyspace else ())}
+        if shard.name not in known:
+            yield f"{name}.{shard.name}.json"
 
 
 def _of_rule(rule: Rule, is_own: bool, is_at_source: bool) -> Warned:
