@@ -14,11 +14,10 @@ MOVE_TABLES = "MoveTables"
 CREATE, SWITCH, REVERSE, CANCEL, COMPLETE = "create", "switchtraffic", "reversetraffic", "cancel", "complete"
 SHOWS = ("show", "status")
 REHEARSED = (CREATE, SWITCH, REVERSE, CANCEL, COMPLETE, *SHOWS)
-# Flags that name what a command is about, of all commands of a workflow and of one alone.
+# Flags that name what a command is about, of all commands of a workflow and of one alone; and the one that names the cluster.
 OF_WORKFLOW = ("workflow", "target-keyspace")
+OF_CLUSTER = ("server",)
 OF_ACTION = {CREATE: ("source-keyspace", "tables", "all-tables", "exclude-tables"), SWITCH: ("tablet-types",), REVERSE: ("tablet-types",)}
-# How to reach a cluster and how to print: they mean nothing to a move.
-OF_CLIENT = ("server", "action-timeout", "compact", "format", "logtostderr", "alsologtostderr", "v", "stderrthreshold", "grpc-auth-static-client-creds")
 # Flags without a value behind them. Any other takes one, unless it has it behind a `=`.
 ALONE = (
     *("all-tables", "atomic-copy", "auto-start", "compact", "defer-secondary-keys", "dry-run", "enable-reverse-replication", "force", "help", "keep-data"),
@@ -79,7 +78,7 @@ class Command:
     @property
     def not_shown(self) -> list[str]:
         """Flags and words that have no meaning here."""
-        meant = (*OF_WORKFLOW, *OF_CLIENT, *OF_ACTION.get(self.action, ()))
+        meant = (*OF_WORKFLOW, *OF_CLUSTER, *OF_ACTION.get(self.action, ()))
         return [*(f"--{it}" for it in self.flags if it not in meant), *self.left]
 
     @property
