@@ -149,7 +149,7 @@ def quoted(program: str) -> Iterator[str | None]:
 
 def run(program: str, *words: str) -> subprocess.CompletedProcess:
     """A run of tools/rehearse with these words."""
-    return subprocess.run([*REHEARSE, *words, "--mt", program], stdout=subprocess.PIPE, stderr=subprocess.PIPE, text=True, timeout=120)
+    return subprocess.run([*REHEARSE, *words, "--mt", program], stdout=subprocess.PIPE, stderr=subprocess.PIPE, text=True)
 
 
 def command_lines(program: str) -> Iterator[str | None]:

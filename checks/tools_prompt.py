@@ -12,14 +12,14 @@ import signal
 import subprocess
 import sys
 import tempfile
-import time
 from collections.abc import Iterator
+
+from asleep import LOOKS, is_stuck
 
 TOP = pathlib.Path(__file__).resolve().parent.parent
 PROMPT = [sys.executable, str(TOP / "tools/prompt")]
 SESSION = TOP / "checks/prompt.session"
 ASKS = "mt> "
-LONGEST = 60  # seconds until an answer
 # Words that are typed with Tab, and the line that they become; each behind the lines of SETTING.
 SETTING = [
     *("keyspace commerce", "keyspace customer -80,80-", "table commerce corder", "table commerce cart"),
@@ -51,7 +51,7 @@ def session() -> list[tuple[str, list[str]]]:
 
 def piped(program: str, lines: bytes, *words: str, cwd: str | None = None) -> subprocess.CompletedProcess:
     """A prompt whose lines come from a pipe."""
-    return subprocess.run([*PROMPT, "--mt", program, *words], input=lines, stdout=subprocess.PIPE, stderr=subprocess.PIPE, cwd=cwd, timeout=LONGEST)
+    return subprocess.run([*PROMPT, "--mt", program, *words], input=lines, stdout=subprocess.PIPE, stderr=subprocess.PIPE, cwd=cwd)
 
 
 class Terminal:
@@ -67,15 +67,18 @@ class Terminal:
         os.close(slave)
         self.echo = self.read()
 
-    def read(self, longest: float = LONGEST) -> str:
-        """What is printed up to the next prompt, or to the end, or for so many seconds."""
-        said, ends = b"", time.monotonic() + longest
-        while not said.endswith(ASKS.encode()) and time.monotonic() < ends:
-            ready, _, _ = select.select([self.master], [], [], 0.2)
+    def read(self) -> str:
+        """What is printed up to the next prompt, or to the end, or until it waits to be told more."""
+        said, is_waiting = b"", False
+        while not said.endswith(ASKS.encode()):
+            ready, _, _ = select.select([self.master], [], [], 0 if is_waiting else LOOKS)
+            if not ready and is_waiting:
+                break
             try:
                 said += os.read(self.master, 65536) if ready else b""
             except OSError:  # it has ended
                 break
+            is_waiting = not ready and is_stuck(self.process.pid)
         return said.decode(errors="replace").replace("\r\n", "\n")
 
     def type(self, text: str) -> str:
@@ -93,21 +96,22 @@ class Terminal:
         said = ""
         for _ in range(10):
             self.process.send_signal(signal.SIGINT)
-            said += self.read(2)
+            said += self.read()
             if said.endswith(ASKS):
                 break
         return said
 
     def end(self) -> int:
-        """Ends it by Ctrl-D; gives its status, or kills it if it doesn't end."""
+        """Ends it by Ctrl-D; gives its status. One that waits for more is killed."""
         os.write(self.master, b"\x04")
-        try:
-            return self.process.wait(LONGEST)
-        except subprocess.TimeoutExpired:
-            self.process.kill()
-            return self.process.wait()
-        finally:
-            os.close(self.master)
+        while self.process.poll() is None:
+            try:
+                self.process.wait(LOOKS)
+            except subprocess.TimeoutExpired:
+                if is_stuck(self.process.pid):
+                    self.process.kill()
+        os.close(self.master)
+        return self.process.returncode
 
 
 def over_a_pipe(program: str) -> Iterator[str | None]:
