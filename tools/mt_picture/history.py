@@ -10,11 +10,11 @@ from mt_picture.columns import refusal_name
 from mt_picture.facts import DriveFacts, MoveFacts, Query, Served, State, StreamFacts, WayBack
 from mt_picture.moves import Begun
 from mt_picture.script import Script, words_of
-from mt_picture.ways import DRIVES, Part, Trial, drive_facts, part_of, step_names, try_back, way_facts
+from mt_picture.ways import DRIVES, Trial, drive_facts, step_names, try_back, way_facts
 from mt_runs.plan import JOURNAL
 from mt_runs.program import Program, is_refusal, is_refused
 from mt_runs.show import Move
-from mt_runs.topology import Topology
+from mt_runs.topology import Part, Topology
 
 
 @dataclass(frozen=True)
@@ -114,7 +114,7 @@ class History:
 
     def part(self, column: int) -> Part:
         """What the move has of the topology behind a column."""
-        return part_of(self.move, self.behind[column].looked.topology)
+        return self.behind[column].looked.topology.part_of(self.move.source, self.move.target, self.move.tables)
 
     def first_column_of(self, column: int) -> int:
         """The first column of what the way back from a column takes back: of the way that is open, of the switched traffic, or of the move."""

@@ -5,7 +5,6 @@ from collections.abc import Sequence
 from dataclasses import dataclass
 
 from mt_picture.script import Script, words_of
-from mt_runs.show import TYPES
 from mt_runs.topology import Topology
 
 
@@ -28,11 +27,6 @@ class Begun:
     def lives(self, place: int) -> bool:
         """Whether it has begun by then, and hasn't ended."""
         return self.stands(place) and (self.ended is None or place < self.ended)
-
-    def keys(self) -> frozenset[str]:
-        """The keys of the routing rules that belong to it."""
-        names = [name for table in self.tables for name in (table, f"{self.source}.{table}", f"{self.target}.{table}")]
-        return frozenset(name + of for name in names for of in ("", *(f"@{it}" for it in TYPES)))
 
 
 def moves_begun(script: Script, answers: Sequence[str], topology: Topology) -> list[Begun]:

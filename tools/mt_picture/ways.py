@@ -10,21 +10,12 @@ from mt_picture.script import words_of
 from mt_runs.plan import NAMES, PlannedStep, planned_steps
 from mt_runs.program import Program, ProgramFailed, is_refusal
 from mt_runs.show import Move, Way, parse_show, stream_word
-from mt_runs.topology import Topology, parse_dump
+from mt_runs.topology import Part, parse_dump
 
 DRIVES = ("switch", "reverse")
 MOST_TRIES = 64  # of a step by a drive, which lets a stream read so many entries between:
 ENTRIES_AT_ONCE = 100
 NOT_LEVEL = "refused F18 NotLevel"
-
-
-@dataclass(frozen=True)
-class Part:
-    """What a move has of a topology: the rules of its keys, and at which of both sides its tables stand and are denied."""
-
-    rules: frozenset[tuple[str, str]]
-    present: frozenset[str]
-    denied: frozenset[str]
 
 
 @dataclass(frozen=True)
@@ -40,14 +31,6 @@ class Trial:
         return not any(is_refusal(it) for it in self.answers)
 
 
-def part_of(move: Begun, topology: Topology) -> Part:
-    """What a move has of a topology, whether it lives or not."""
-    tables = frozenset(f"{side}.{table}" for side in (move.source, move.target) for table in move.tables)
-    present = frozenset(f"{it.name}.{table}" for it in topology.keyspaces.values() for table in it.tables)
-    keys = move.keys()
-    return Part(frozenset((key, target) for key, target in topology.rules.items() if key in keys), tables & present, tables & topology.denied)
-
-
 def lines_back(shown: Move) -> list[str]:
     """The lines that lead back from where a move stands: of an open way each undo, of switched traffic the reversal, else the cancel."""
     if shown.way:
@@ -60,7 +43,7 @@ def try_back(program: Program, before: Sequence[str], move: Begun, shown: Move) 
     lines = lines_back(shown)
     *answers, dump = program.ask(before, [*lines, "dump"])
     tried = next((place + 1 for place, answer in enumerate(answers) if is_refusal(answer)), len(lines))
-    return Trial(lines[:tried], answers[:tried], part_of(move, parse_dump(dump)))
+    return Trial(lines[:tried], answers[:tried], parse_dump(dump).part_of(move.source, move.target, move.tables))
 
 
 def step_numbers(way: Way, shards: Sequence[str]) -> list[int]:

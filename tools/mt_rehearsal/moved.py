@@ -4,7 +4,7 @@ from __future__ import annotations
 from collections.abc import Mapping
 from dataclasses import dataclass
 
-from mt_runs.topology import Topology
+from mt_runs.topology import Part, Topology
 
 TYPES_BEHIND = ("", "@primary", "@replica", "@rdonly")
 
@@ -35,9 +35,6 @@ class Moved:
         """The keys of rules that belong to the move: each name for all types, and for each type."""
         return [name + behind for name in self.own_names(table) for behind in TYPES_BEHIND]
 
-    def part_of(self, topology: Topology) -> tuple[dict[str, str], frozenset[str], frozenset[str]]:
-        """What of a topology belongs to the move: the rules of its tables' own names, their denials, and which of them stand at the target."""
-        names = {name for table in self.tables for name in self.own_names(table)}
-        rules = {key: target for key, target in topology.rules.items() if key.partition("@")[0] in names}
-        target = topology.keyspaces.get(self.target)
-        return rules, topology.denied & names, frozenset(target.tables if target else ()) & frozenset(self.tables)
+    def part_of(self, topology: Topology) -> Part:
+        """What of a topology belongs to the move."""
+        return topology.part_of(self.source, self.target, self.tables)

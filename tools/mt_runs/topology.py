@@ -2,7 +2,7 @@
 from __future__ import annotations
 
 import json
-from collections.abc import Mapping
+from collections.abc import Iterable, Mapping
 from dataclasses import dataclass
 from typing import Any
 
@@ -16,6 +16,15 @@ class Keyspace:
     name: str
     shards: tuple[str, ...]
     tables: tuple[str, ...]
+
+
+@dataclass(frozen=True)
+class Part:
+    """What a move has of a topology: the rules of its tables' twelve names, and at which of both sides its tables stand and are denied, as `keyspace.table`."""
+
+    rules: frozenset[tuple[str, str]]
+    present: frozenset[str]
+    denied: frozenset[str]
 
 
 @dataclass(frozen=True)
@@ -37,6 +46,14 @@ class Topology:
             return rule or name
         holders = [keyspace.name for keyspace in self.keyspaces.values() if name in keyspace.tables]
         return f"{holders[0]}.{name}" if len(holders) == 1 else None
+
+    def part_of(self, source: str, target: str, tables: Iterable[str]) -> Part:
+        """What a move of these tables has of the topology, whether it lives or not."""
+        sides = frozenset(f"{side}.{table}" for side in (source, target) for table in tables)
+        names = sides.union(tables)
+        rules = frozenset((key, to) for key, to in self.rules.items() if key.partition("@")[0] in names)
+        present = frozenset(f"{it.name}.{table}" for it in self.keyspaces.values() for table in it.tables)
+        return Part(rules, sides & present, sides & self.denied)
 
 
 def parse_dump(line: str) -> Topology:
