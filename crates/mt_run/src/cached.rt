@@ -2,6 +2,7 @@
 ghost use Rattle.std.specs.Prelude.{◌≡◌, IfSome, IfNone, is_ok, is_some};
 ghost use Rattle.mt_names.specs.Names.{read_table};
 ghost use Rattle.mt_plain.specs.Plain.{opening};
+ghost use Rattle.mt_stands.specs.Purges.{IsPurged};
 ghost use Rattle.mt_stands.specs.Ways.{CoreStands};
 ghost use Rattle.mt_run.specs.Names.{LeadThere, plain_key};
 ghost use Rattle.mt_run.specs.Rows.{ReadThrough, WrittenThrough};
@@ -18,8 +19,8 @@ use std::str;
 
 /// A site beside where names led when rows were last asked for by them. Each of them leads there still: a row and an advance leave that
 /// true, and whoever asks for anything else forgets the names first. So most rows of a script take one look-up of a name, by its bytes in
-/// the line, where the site alone takes four and more. Only names of tables alone are kept, without a keyspace or a type. (Vitess: a router
-/// that keeps the plans of queries)
+/// the line, where the site alone takes four and more. Only names of tables alone are kept, without a keyspace or a type. At each line of a
+/// script no log keeps a whole segment that nobody needs. (Vitess: a router that keeps the plans of queries)
 #[derive(Drop)]
 pub(crate) struct CachedSite<W: Asks> {
     /// The site.
@@ -27,6 +28,7 @@ pub(crate) struct CachedSite<W: Asks> {
     /// The names.
     pub names: Names,
     ghost lead: { LeadThere site.core.base.topology names.kept.entries },
+    ghost purged: { IsPurged site.core.base },
 }
 
 impl<W: Asks> CachedSite<W> {

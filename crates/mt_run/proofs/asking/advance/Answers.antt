@@ -30,4 +30,5 @@ invariant_of-cached g c =
       lead = subst (λ t. LeadThere t c.args.cached.now.names.kept.entries)
           (sym (advance_leaves_topology old c.advance-told.new.self.core.base c.args.workflow.now (stream_name words.stream) c.in-Ok.shard words.at words.max (advanced_from c.advance-told.result) c.advance-told.ensures.does))
           c.args.cached.now.lead;
+      purged = c.advance-told.ensures.purged c.args.cached.now.purged;
     }
