@@ -7,7 +7,7 @@ use Rattle.mt_desk.specs.declared.history.Line.{Line}
 use Rattle.mt_desk.specs.Histories.{call_of, calls_of}
 
 -- those of two histories, one behind the other
-calls_append : (client : ℕ) (xs ys : List Line) → calls_of client (xs ++ ys) ≡ calls_of client xs ++ calls_of client ys
+pub calls_append : (client : ℕ) (xs ys : List Line) → calls_of client (xs ++ ys) ≡ calls_of client xs ++ calls_of client ys
 calls_append client xs ys = ap (map call_of) (filter-append (λ l. l.client == client) xs ys) ∙ map-append call_of (filter (λ l. l.client == client) xs) (filter (λ l. l.client == client) ys)
 
 -- that of one line, where it is the client's

@@ -1,13 +1,11 @@
 -- Publications of a history, as it grows.
-use Rattle.std.proofs.Common.{◌≡◌, ◌≤◌, inr, ℕ, List, [], ◌∷◌, ◌++◌, fold, get_or, Option, None, Some, option_map, slice_get, map, length, take, refl, sym, ap, ◌∙◌, subst, arith, length-append}
+use Rattle.std.proofs.Common.{◌≡◌, ◌≤◌, ℕ, List, [], ◌∷◌, ◌++◌, get_or, Option, None, Some, option_map, slice_get, map, length, refl, sym, ap, ◌∙◌, subst, arith, length-append}
 use Rattle.std.proofs.Math.Logic.{∥∥₁_elim}
 use Rattle.std.proofs.Props.{props}
 use Rattle.std.proofs.lemmas.List.{length-map, map-append, take-append-le, take_all}
 use Rattle.std.proofs.lemmas.List.Elements.{All-push}
 use Rattle.std.proofs.lemmas.List.Quantifiers.{all_pairs_push}
 use Rattle.std.specs.List.{last_or}
-use Rattle.std.specs.Prelude.{Bool, true, false, MatchBool}
-use Rattle.mt_model.specs.declared.entries.Entry.{Entry}
 use Rattle.mt_model.specs.declared.entries.Scope.{Scope}
 use Rattle.mt_model.specs.Topology.{TopologyState, routes_of}
 use Rattle.mt_plain.specs.Answers.{ArePublications, History, HistoryLine, IsPublication, IsView, after, after_lines}
@@ -15,12 +13,10 @@ use Rattle.mt_plain.specs.Answers as plain
 use Rattle.mt_plain.specs.Plain.{Plain}
 use Rattle.mt_plain.specs.Serve.{IsServed}
 use Rattle.mt_routes.specs.declared.publication.Publication.{Publication}
-use Rattle.mt_routes.specs.Places.{Agrees, AreRoutes, PlacesState, Shows, with_entry}
 use Rattle.mt_routes.specs.Publications.{front_of, last_front, publication}
 use Rattle.mt_stands.specs.Ways.{CoreStands, CoreState}
 use Rattle.mt_desk.specs.declared.history.Line.{Line}
-use Rattle.mt_desk.specs.declared.fault.DeskFault.TheVariants.{Memory}
-use Rattle.mt_desk.specs.Fronts.{AreFronts, Changes, LeavesPending, Published, Tells, publication_from}
+use Rattle.mt_desk.specs.Fronts.{AreFronts, Published, Tells, publication_from}
 use Rattle.mt_desk.specs.Histories.{Leads, answered, asked, history_from, line_from}
 
 -- ---- with one line more they are those of the longer history
@@ -118,12 +114,6 @@ first_front view scopes opening =
 pub last_front_within : (scopes : List Scope) (opening : CoreState) (lines : List Line) (list : List Publication) → ∥ AreFronts scopes opening lines list ∥₁ → last_front list ≤ length lines
 last_front_within scopes opening lines list are = ∥∥₁_elim are (hlevel props) (λ a. a.within)
 
--- behind a publication that was listed, or wasn't
-pub fronts_listed : (scopes : List Scope) (opening : CoreState) (lines : List Line) (q : Publication) (old new : List Publication) (result : Bool) → MatchBool result (new ≡ old ++ q ∷ []) (new ≡ old)
-    → ∥ AreFronts scopes opening lines old ∥₁ → ∥ AreFronts scopes opening lines (old ++ q ∷ []) ∥₁ → ∥ AreFronts scopes opening lines new ∥₁
-fronts_listed scopes opening lines q old new false none kept added = subst (λ list. ∥ AreFronts scopes opening lines list ∥₁) (sym none) kept
-fronts_listed scopes opening lines q old new true listed kept added = subst (λ list. ∥ AreFronts scopes opening lines list ∥₁) (sym listed) added
-
 -- ---- what is known of them without the book
 
 pub published : (scopes : List Scope) (opening now : CoreState) (lines : List Line) (list : List Publication) → ∥ Leads scopes opening lines now ∥₁ → ∥ AreFronts scopes opening lines list ∥₁ → Published scopes opening list
@@ -133,13 +123,3 @@ pub tells : (scopes : List Scope) (opening now : CoreState) (lines : List Line) 
     → ∥ Leads scopes opening lines now ∥₁ → ∥ AreFronts scopes opening lines new ∥₁ → Tells scopes opening new
 tells scopes opening now lines old new is leads are =
     ∥∥₁_elim leads (hlevel) (λ l. ∥∥₁_elim are (hlevel) (λ a. ∣ (lines, now, l, a, ap (last_or None) is ∙ last_added None old (publication (length lines) (routes_of now.base.topology))) ∣₁))
-
--- a list whose last publication has the routes of a topology is shown by places that agree with them
-pub shows_last : (t : TopologyState) (front : ℕ) (old new : List Publication) (places : PlacesState) → new ≡ old ++ publication front (routes_of t) ∷ [] → AreRoutes (routes_of t) → Agrees places (routes_of t) → Shows new places
-shows_last t front old new places is are agrees =
-    (routes_of t, ap (λ l. option_map (λ p. p.entries) (last_or None l)) is ∙ ap (option_map (λ p. p.entries)) (last_added None old (publication front (routes_of t))), are, agrees)
-
--- a tell that memory cuts short leaves the first entries of its change pending
-pub leaves : (before after : PlacesState) (t : TopologyState) (change written : List Entry) → written ≡ change → Changes before t change → (n : ℕ) × (after ≡ fold with_entry before (take n written))
-    → LeavesPending before t Memory after
-leaves before after t change written is changes some = inr (change, changes, some.0, some.1 ∙ ap (λ l. fold with_entry before (take some.0 l)) is)

@@ -1,21 +1,26 @@
 -- A history that leads on.
-use Rattle.std.proofs.Common.{◌≡◌, ℕ, List, [], ◌∷◌, ◌++◌, Result, refl, sym, subst}
+use Rattle.std.proofs.Common.{◌≡◌, ℕ, List, [], ◌∷◌, ◌++◌, IfOk, Result, Ok, Err, refl, sym, subst}
 use Rattle.std.proofs.Math.Logic.{∥∥₁_elim, ∥∥₁_map}
 use Rattle.mt_laws.specs.Headline.{Headline}
 use Rattle.mt_laws.specs.WayBack.{IsReached}
 use Rattle.mt_event.specs.declared.event.Event.{Event}
 use Rattle.mt_event.specs.declared.refusal.Refusal.{Refusal}
 use Rattle.mt_event.specs.declared.reply.Reply.{Reply}
+use Rattle.mt_event.specs.declared.reply.Reply.TheVariants.{Done}
 use Rattle.mt_event.specs.Events.{answer_from, event_of}
 use Rattle.mt_model.specs.declared.entries.Scope.{Scope}
 use Rattle.mt_plain.specs.Answers.{Answers, IsLegal, Run, after}
 use Rattle.mt_plain.specs.Events as plain
 use Rattle.mt_plain.specs.Next.{next}
 use Rattle.mt_plain.specs.Plain.{Plain}
+use Rattle.mt_site.specs.GivenUp.{CanBeGivenUp}
 use Rattle.mt_site.specs.Stood.{IsCoreWith}
+use Rattle.mt_stands.specs.Purges.{IsPurged}
 use Rattle.mt_stands.specs.Ways.{CoreStands, CoreState, CoreSteps}
+use Rattle.mt_desk.specs.declared.fault.DeskFault.{DeskFault}
 use Rattle.mt_desk.specs.declared.history.Line.{Line}
-use Rattle.mt_desk.specs.Histories.{Leads, answered, asked, history_from, line}
+use Rattle.mt_desk.specs.Histories.{Leads, StaysPurged, answered, asked, history_from, line}
+use Rattle.mt_desk.specs.Taken.{IsTaken}
 
 -- no line leads nowhere
 pub leads_nowhere : (scopes : List Scope) (s : CoreState) → IsCoreWith scopes s → Leads scopes s [] s
@@ -63,3 +68,24 @@ pub kept_more : (scopes : List Scope) (opening now later : CoreState) (lines : L
     → ∥ Leads scopes opening (lines ++ line client event answer ∷ []) later ∥₁
 kept_more scopes opening now later lines client event answer leads step =
     ∥∥₁_elim leads (hlevel) (λ l. ∣ leads_more scopes opening now later lines (line client event answer) l step ∣₁)
+
+-- what an event is answered by a core that a history leads to: with its line the history is still legal
+with_its_line : (scopes : List Scope) (opening now later : CoreState) (lines : List Line) (client : ℕ) (event : Event) (result : Result (Result Reply Refusal) DeskFault)
+    → Leads scopes opening lines now → IfOk result (λ r. CoreSteps scopes now (event_of event) (answer_from r) later)
+    → IfOk result (λ answer. (then : CoreState) × Leads scopes opening (lines ++ line client event answer ∷ []) then)
+with_its_line scopes opening now later lines client event (Ok answer) leads steps = (later, leads_more scopes opening now later lines (line client event answer) leads steps)
+with_its_line scopes opening now later lines client event (Err fault) leads steps = steps
+
+pub taken : (scopes : List Scope) (opening now later : CoreState) (lines : List Line) (client : ℕ) (event : Event) (result : Result (Result Reply Refusal) DeskFault)
+    → ∥ Leads scopes opening lines now ∥₁ → IfOk result (λ r. CoreSteps scopes now (event_of event) (answer_from r) later)
+    → (CanBeGivenUp now (event_of event) → result ≡ Ok (Ok Done)) → IsTaken scopes opening client event result
+taken scopes opening now later lines client event result kept steps given =
+    ∥∥₁_map kept (λ leads. (lines, now, leads, with_its_line scopes opening now later lines client event result leads steps, given))
+
+-- ---- bounded logs
+
+pub purged_opened : (opening core : CoreState) → core ≡ opening → ∥ StaysPurged opening core ∥₁
+purged_opened opening core is = ∣ (λ was. subst (λ (s : CoreState). IsPurged s.base) (sym is) was) ∣₁
+
+pub purged_more : (opening now later : CoreState) → ∥ StaysPurged opening now ∥₁ → (IsPurged now.base → IsPurged later.base) → ∥ StaysPurged opening later ∥₁
+purged_more opening now later was step = ∥∥₁_map was (λ stays opened. step (stays opened))

@@ -1,11 +1,10 @@
 mod AdmitLemmas
 mod AnswerLemmas
 mod CallLemmas
-mod ChainLemmas
-mod FewLemmas
 mod FrontLemmas
 mod LeadsLemmas
 mod NoticeLemmas
+mod NumberLemmas
 mod PassLemmas
+mod ReadingLemmas
 mod RoomLemmas
-mod WalkLemmas

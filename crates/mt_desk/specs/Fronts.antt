@@ -1,5 +1,5 @@
 -- Publications of routes, in the words of the definitions (this profile's own).
-use Rattle.std.specs.Prelude.{◌≡◌, ◌≤◌, ◌⊎◌, ◌↔◌, ℕ, true, false, List, Contains, fold, length, map, take, None, Some}
+use Rattle.std.specs.Prelude.{◌≡◌, ◌≤◌, true, false, List, length, map, None, Some}
 use Rattle.std.specs.List.{last_or}
 use Rattle.mt_model.specs.declared.entries.Entry.{Entry}
 use Rattle.mt_model.specs.declared.entries.Scope.{Scope}
@@ -9,8 +9,7 @@ use Rattle.mt_plain.specs.Answers.{ArePublications}
 use Rattle.mt_plain.specs.Answers as plain
 use Rattle.mt_plain.specs.Plain.{Plain}
 use Rattle.mt_routes.specs.declared.publication.Publication.{Publication}
-use Rattle.mt_routes.specs.Differences.{IsDifference}
-use Rattle.mt_routes.specs.Places.{PlacesState, with_entry}
+use Rattle.mt_routes.specs.Differences.{AreDifferences}
 use Rattle.mt_routes.specs.Turns.{AreInTurn}
 use Rattle.mt_routes.specs.Publications.{last_front, publication}
 use Rattle.mt_stands.specs.Ways.{CoreStands, CoreState}
@@ -46,9 +45,9 @@ Tells scopes opening list =
 
 -- ---- why nothing is told
 
--- a change tells routers what the view that is pending says otherwise than a topology, in turn
-abbrev pub Changes : PlacesState → TopologyState → List Entry → Type 0
-Changes pending t change = ((e : Entry) → Contains change e ↔ IsDifference pending (routes_of t) e) × AreInTurn change
+-- a change is all that a topology's routes say otherwise than those that were published last, in turn
+abbrev pub Changes : (before : List Entry) → TopologyState → List Entry → Type 0
+Changes before t change = AreDifferences before (routes_of t) change × AreInTurn change
 
 -- no watcher has the scope of routes, which is reported first; else no memory was left, or a watcher that was asked with such a change refused
 abbrev pub AsksNone : List Scope → Answering → (is_change : List Entry → Type 0) → DeskFault → Type 0
@@ -56,12 +55,6 @@ AsksNone scopes may_answer is_change NoWatcher = has_scope scopes Routes ≡ fal
 AsksNone scopes may_answer is_change Memory = has_scope scopes Routes ≡ true
 AsksNone scopes may_answer is_change (WatcherRefused i) = (change : List Entry) × is_change change × IsRefusedAt scopes may_answer Routes change i
 AsksNone scopes may_answer is_change other = ⊥
-
--- where nothing is told, no memory was left before a change was written or behind some of its entries, which stay pending; a watcher leaves
--- what was pending
-abbrev pub LeavesPending : (before : PlacesState) → TopologyState → DeskFault → (after : PlacesState) → Type 0
-LeavesPending before t Memory after = (after ≡ before) ⊎ ((change : List Entry) × Changes before t change × (n : ℕ) × (after ≡ fold with_entry before (take n change)))
-LeavesPending before t other after = after ≡ before
 
 -- the same by the scopes alone
 abbrev pub TellsNone : List Scope → DeskFault → Type 0

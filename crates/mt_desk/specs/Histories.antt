@@ -9,6 +9,7 @@ use Rattle.mt_plain.specs.Answers.{History, HistoryLine, IsLegal, after}
 use Rattle.mt_plain.specs.Events as plain
 use Rattle.mt_plain.specs.Plain.{Plain}
 use Rattle.mt_site.specs.Stood.{IsCoreWith}
+use Rattle.mt_stands.specs.Purges.{IsPurged}
 use Rattle.mt_stands.specs.Ways.{CoreStands, CoreState}
 use Rattle.mt_desk.specs.declared.history.Call.{Call}
 use Rattle.mt_desk.specs.declared.history.Line.{Line}
@@ -50,3 +51,7 @@ pub record Leads (scopes : List Scope) (opening : CoreState) (lines : List Line)
   pub stood : IsCoreWith scopes opening
   pub each : (p : Plain) → CoreStands p scopes opening
       → IsLegal p (history_from lines) × CoreStands (after p (asked lines) (answered lines)) scopes now
+
+-- if no log kept a segment that nobody needs at the opening, none does now
+abbrev pub StaysPurged : (opening now : CoreState) → Type 0
+StaysPurged opening now = IsPurged opening.base → IsPurged now.base

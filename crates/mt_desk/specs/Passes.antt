@@ -1,6 +1,5 @@
 -- Who has a pass (this profile's own).
-use Rattle.std.specs.Prelude.{◌≡◌, ◌≤◌, ◌==◌, ◌||◌, ◌⊎◌, ℕ, Bool, true, false, [], ◌∷◌, ◌++◌, List, All, Contains, Result, Ok, Err, length, ⊤, nat_eq}
-use Rattle.indexmap.specs.IndexSet.{IndexSet, contains}
+use Rattle.std.specs.Prelude.{◌≡◌, ◌<◌, ◌==◌, ◌||◌, ◌⊎◌, ℕ, Bool, true, false, [], ◌∷◌, ◌++◌, List, All, Contains, Result, Ok, Err, ⊤}
 use Rattle.mt_model.specs.declared.entries.Scope.{Scope}
 use Rattle.mt_stands.specs.Ways.{CoreState}
 use Rattle.mt_desk.specs.declared.history.Call.{Call}
@@ -27,10 +26,6 @@ HasPass passes client = has_pass passes client ≡ true
 
 abbrev pub IsOfPass : List (ℕ × List Call) → Line → Type 0
 IsOfPass passes l = has_pass passes l.client ≡ true
-
--- a set has the clients of some passes, and no others
-abbrev pub AreClients : {S : Type 0} → List (ℕ × List Call) → IndexSet ℕ S → Type 0
-AreClients passes clients = (client : ℕ) → contains nat_eq clients client ≡ has_pass passes client
 
 -- a pass lists the calls of its client
 abbrev pub ListsCalls : List Line → ℕ × List Call → Type 0
@@ -60,19 +55,18 @@ IsStranger passes lines client = (l : Line) × Contains lines l × (l.client ≡
 abbrev pub Differs : List (ℕ × List Call) → List Line → (client : ℕ) → Type 0
 Differs passes lines client = ListsOthers passes lines client ⊎ IsStranger passes lines client
 
--- what some passes are answered: one is missing exactly where a client to whom a pass was given has none of them, and that is reported first,
--- where there are fewer passes than such clients even with no memory left; else the history is theirs, or differs from them by the calls of a client
+-- what some passes are answered when they are compared: one is missing exactly where a client to whom a pass was given has none of them, and that is
+-- reported first; else the history is theirs, or differs from them by the calls of a client. No memory is taken for that
 abbrev pub Compares : (clients : List ℕ) → List (ℕ × List Call) → List Line → Result ⊤ DeskFault → Type 0
 Compares clients passes lines (Ok done) = All (HasPass passes) clients × IsOf passes lines
 Compares clients passes lines (Err PassMissing) = ¬ All (HasPass passes) clients
 Compares clients passes lines (Err (HistoryDiffers client)) = All (HasPass passes) clients × Differs passes lines client
-Compares clients passes lines (Err Memory) = length clients ≤ length passes
 Compares clients passes lines (Err other) = ⊥
 
--- a desk refuses to gather passes as it tells: there is a history, legal as above, from which the calls of the client that it names differ.
--- Passes are refused for no other reason but that one is missing, or that no memory is left
+-- a desk refuses to gather passes as it tells: one of the 65,536 clients that there may be has none of them; or there is a history, legal as above, from
+-- which the calls of the client that it names differ. Where no memory is left all was compared, and there is one history of just these calls
 abbrev pub IsCaused : List Scope → (opening : CoreState) → List (ℕ × List Call) → DeskFault → Type 0
+IsCaused scopes opening passes PassMissing = (client : ℕ) × (client < 65536) × (has_pass passes client ≡ false)
 IsCaused scopes opening passes (HistoryDiffers client) = ∥ ((lines : List Line) × (now : CoreState) × Leads scopes opening lines now × Differs passes lines client) ∥₁
-IsCaused scopes opening passes PassMissing = ⊤
-IsCaused scopes opening passes Memory = ⊤
+IsCaused scopes opening passes Memory = HaveOneHistory scopes opening passes
 IsCaused scopes opening passes other = ⊥

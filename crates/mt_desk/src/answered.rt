@@ -6,6 +6,7 @@ ghost use Rattle.mt_plain.specs.Events as plain;
 ghost use Rattle.mt_site.specs.Applies.{AppliesAndPurges};
 ghost use Rattle.mt_site.specs.GivenUp.{CanBeGivenUp};
 ghost use Rattle.mt_site.specs.Stood.{IsCoreWith};
+ghost use Rattle.mt_stands.specs.Purges.{IsPurged};
 ghost use Rattle.mt_stands.specs.Ways.{CoreSteps};
 ghost use Rattle.mt_desk.specs.Room.{gives_up, is_undo_or_cancel};
 
@@ -29,6 +30,7 @@ pub(crate) fn answered<W: Asks>(
     ensures applies { AppliesAndPurges (W.scopes watchers.now) (W.may_answer watchers.now) core.old (event_of event.now) (answer_from result.0) core.new }
     ensures steps { CoreSteps (W.scopes watchers.now) core.old (event_of event.now) (answer_from result.0) core.new }
     ensures given_up { CanBeGivenUp core.old (event_of event.now) → answer_from result.0 ≡ plain.done }
+    ensures purged { IsPurged core.old.base → IsPurged core.new.base }
 {
     match event {
         Event::Write {
@@ -68,6 +70,7 @@ fn answered_by_value<W: Asks>(
     ensures applies { AppliesAndPurges (W.scopes watchers.now) (W.may_answer watchers.now) core.old (event_of event.now) (answer_from result.0) core.new }
     ensures steps { CoreSteps (W.scopes watchers.now) core.old (event_of event.now) (answer_from result.0) core.new }
     ensures given_up { CanBeGivenUp core.old (event_of event.now) → answer_from result.0 ≡ plain.done }
+    ensures purged { IsPurged core.old.base → IsPurged core.new.base }
 {
     let answer = core.apply(watchers, event);
     (ours.keep(&answer), theirs.keep(&answer))

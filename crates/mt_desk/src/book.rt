@@ -11,41 +11,37 @@ ghost use Rattle.mt_site.specs.Applies.{AppliesAndPurges};
 ghost use Rattle.mt_site.specs.GivenUp.{CanBeGivenUp};
 ghost use Rattle.mt_site.specs.Owed.{owed_to};
 ghost use Rattle.mt_site.specs.Stood.{IsCoreWith};
+ghost use Rattle.mt_stands.specs.Purges.{IsPurged};
 ghost use Rattle.mt_stands.specs.Ways.{CoreStands, CoreSteps};
 ghost use Rattle.mt_model.specs.declared.entries.Scope.TheVariants.{Routes};
 ghost use Rattle.mt_model.specs.Topology.{routes_of};
 ghost use Rattle.mt_model.specs.declared.entries.Entry.{Entry};
-ghost use Rattle.mt_routes.specs.Pending.{pending_of, published_of};
-ghost use Rattle.mt_routes.specs.Places.{Agrees, AreRoutes};
-ghost use Rattle.mt_routes.specs.Publications.{publication};
+ghost use Rattle.mt_routes.specs.Publications.{last_routes, publication};
 ghost use Rattle.mt_watch.specs.Asking.{IsTold};
-ghost use Rattle.mt_desk.specs.Fronts.{AreFronts, AsksNone, Changes, LeavesPending, Published, Tells};
-ghost use Rattle.mt_desk.specs.Histories.{Leads, answered, asked, line};
+ghost use Rattle.mt_desk.specs.Fronts.{AreFronts, AsksNone, Changes, Published, Tells};
+ghost use Rattle.mt_desk.specs.Histories.{Leads, StaysPurged, answered, asked, line};
 ghost use Rattle.mt_desk.specs.Passes.{Admits, Compares, HaveOneHistory, IsCaused};
 ghost use Rattle.mt_desk.specs.Room.{HasRoom, is_undo_or_cancel};
 
-use crate::account::{are_there, clients_of, first_cause};
 use crate::answered::answered;
 use crate::history::Line;
-use crate::listed::listed;
-use crate::room::{make_ready, make_room, new_history};
-use crate::tell::noticed;
-use crate::{Answer, DeskFault, DeskName, Pass};
+use crate::listed::{added, begun};
+use crate::numbers::Numbers;
+use crate::reading::first_cause;
+use crate::room::{make_room, new_history};
+use crate::tell::{first_of, next_of};
+use crate::{DeskFault, DeskName, Pass};
 use indexmap::IndexSet;
 use mt_event::{CompactAnswer, CompactEvent, Event, Room};
 use mt_laws::{
     each_event_owes_one_at_most, every_run_keeps_the_headline, routes_of_what_is_served_are_a_view,
 };
-use mt_model::Entry;
-use mt_routes::{
-    Ends, Front, Head, Next, Opened, Told, routes_of_a_topology_say_each_of_themselves,
-    what_is_written_agrees,
-};
+use mt_routes::{Front, Head, Next, Opened, Router, RoutersFull, Shown, Told};
 use mt_site::{Core, a_base_owes_what_its_state_owes};
 use mt_watch::Asks;
 use std::alloc::Global;
 use std::sync::ledger::Blank;
-use std::sync::{Wait, ledger};
+use std::sync::{Arc, Wait, ledger};
 
 /// The core of the controller, with the history of all that was asked of it since the desk was opened. The history is always legal,
 /// and leads from each state that the core stood for at the opening to one that it stands for now. It keeps a place free for each
@@ -56,123 +52,110 @@ pub struct Book<D: DeskName> {
     history: Vec<Line>,
     answers: Room,
     clients: IndexSet<u16>,
+    numbers: Numbers,
     ledger: ledger::Book<D>,
     head: Head<D>,
     told: Told<D>,
+    shown: Arc<Shown<D>>,
     ghost legal: { ∥ Leads D.scopes D.opening history.items core ∥₁ },
+    ghost purged: { ∥ StaysPurged D.opening core ∥₁ },
     ghost room: { HasRoom (vec_len history) core (vec_capacity history) },
     ghost fronts: { ∥ AreFronts D.scopes D.opening history.items told ∥₁ },
 }
 
 impl<D: DeskName> Book<D> {
-    /// A book without lines, under the name of its blank, whose list has one publication, and the routes of it, which are those of the
-    /// topology: `K0 Memory`, where there was none for it, or no place for the events that are owed; then the core is gone.
-    pub fn open(
+    /// A book without lines, under the name of its blank, whose list has one publication, which is shown: the routes of the topology.
+    /// `K0 Memory`, where there was none for it, or no place for the events that are owed; then the core is gone.
+    pub fn open<R: Wait>(
         alloc: Global,
+        rt: &R,
         blank: Blank,
         opened: Opened,
         core: Core,
-    ) -> Result<(Self, Vec<Entry>), DeskFault>
+    ) -> Result<Self, DeskFault>
         requires name { (blank.name ≡ D.name) × (blank.parts ≡ D.parts) }
         requires list { opened.seen.book ≡ D.book }
         requires opening { core ≡ D.opening }
         requires stood { IsCoreWith D.scopes core }
-        ensures core { IfOk result (λ r. r.0.core ≡ core) }
-        ensures history { IfOk result (λ r. r.0.history.items ≡ []) }
-        ensures clients { IfOk result (λ r. r.0.clients.keys ≡ []) }
-        ensures told { IfOk result (λ r. r.0.told ≡ publication 0 (routes_of core.base.topology) ∷ []) }
-        ensures routes { IfOk result (λ r. r.1.items ≡ routes_of core.base.topology) }
-        ensures are { IfOk result (λ r. AreRoutes r.1.items) }
+        ensures core { IfOk result (λ book. book.core ≡ core) }
+        ensures history { IfOk result (λ book. book.history.items ≡ []) }
+        ensures clients { IfOk result (λ book. book.clients.keys ≡ []) }
+        ensures told { IfOk result (λ book. book.told ≡ publication 0 (routes_of core.base.topology) ∷ []) }
         ensures memory { IfErr result (λ fault. fault ≡ DeskFault.Memory) }
     {
-        let (head, mut told) = opened.named::<D>();
-        let Some((history, entries)) = Book::first_lists(alloc, &core, &head, &mut told) else {
+        let Some((history, numbers, first)) = first_lists(alloc, &core) else {
+            return Err(DeskFault::Memory);
+        };
+        let (head, first) = begun(rt, opened, first);
+        let Ok(shown) = Shown::open(alloc, first) else {
             return Err(DeskFault::Memory);
         };
         let (ledger, _) = blank.open::<D>();
-        let clients = IndexSet::new(alloc);
-        Ok((
-            Book::begun(core, history, clients, ledger, head, told),
-            entries,
-        ))
-    }
-
-    /// What a new book takes memory for: a history without lines, which has a place for each event that is owed, and the routes of
-    /// the topology, which are the first publication of the list. There is none only when out of memory.
-    fn first_lists(
-        alloc: Global,
-        core: &Core,
-        head: &Head<D>,
-        told: &mut Told<D>,
-    ) -> Option<(Vec<Line>, Vec<Entry>)>
-        requires { told.old ≡ [] }
-        ensures none { IfSome result (λ r. r.0.items ≡ []) }
-        ensures room { IfSome result (λ r. vec_len r.0 + owed_to core.now.base.workflows ≤ vec_capacity r.0) }
-        ensures first { IfSome result (λ r. told.new ≡ publication 0 (routes_of core.now.base.topology) ∷ []) }
-        ensures routes { IfSome result (λ r. r.1.items ≡ routes_of core.now.base.topology) }
-        ensures are { IfSome result (λ r. AreRoutes r.1.items) }
-    {
-        core.topology().facts();
-        routes_of_a_topology_say_each_of_themselves();
-        let history = new_history(alloc, core).ok()?;
-        let first = Next {
-            front: Front(0),
-            entries: core.topology().routes(alloc).ok()?,
-        };
-        if !listed(head, told, &first) {
-            return None;
-        }
-        Some((history, first.entries))
+        Ok(Book::begun(core, history, numbers, ledger, head, shown))
     }
 
     /// A book with a history without lines, which has a place for each event that is owed, and a list of one publication.
     fn begun(
         core: Core,
         history: Vec<Line>,
-        clients: IndexSet<u16>,
+        numbers: Numbers,
         ledger: ledger::Book<D>,
         head: Head<D>,
-        told: Told<D>,
+        shown: (Arc<Shown<D>>, Told<D>),
     ) -> Self
         requires opening { core ≡ D.opening }
         requires stood { IsCoreWith D.scopes core }
         requires none { history.items ≡ [] }
         requires room { vec_len history + owed_to core.base.workflows ≤ vec_capacity history }
-        requires first { told ≡ publication 0 (routes_of core.base.topology) ∷ [] }
+        requires first { shown.1 ≡ publication 0 (routes_of core.base.topology) ∷ [] }
         ensures core { result.core ≡ core }
         ensures history { result.history ≡ history }
-        ensures clients { result.clients ≡ clients }
-        ensures told { result.told ≡ told }
+        ensures clients { result.clients.keys ≡ [] }
+        ensures told { result.told ≡ shown.1 }
     {
         routes_of_what_is_served_are_a_view();
-        let answers = Room::new(*history.allocator());
+        let (shown, told) = shown;
+        let alloc = *history.allocator();
         Book {
             core,
             history,
-            answers,
-            clients,
+            answers: Room::new(alloc),
+            clients: IndexSet::new(alloc),
+            numbers,
             ledger,
             head,
             told,
+            shown,
         }
     }
 
-    /// What is known of the list of publications, which are those of the history. It takes no memory.
-    pub fn told(&self) -> Told<D>
-        ensures list { result ≡ self.now.told }
-        ensures fronts { ∥ AreFronts D.scopes D.opening self.now.history.items result ∥₁ }
-        ensures published { Published D.scopes D.opening result }
+    /// What is known of the list of publications, which are those of the history.
+    pub fn told(&self) -> &Told<D>
+        ensures list { result.now ≡ self.now.told }
+        ensures fronts { ∥ AreFronts D.scopes D.opening self.now.history.items result.now ∥₁ }
+        ensures published { Published D.scopes D.opening result.now }
     {
-        self.told.again()
+        &self.told
     }
 
-    /// Adds the routes of the topology to the list of publications, with the number of lines of the history as their front, and says
-    /// whether it did: `listed` tells why not. It takes no memory, and no event is taken.
-    fn list(&mut self, entries: Vec<Entry>) -> bool
-        requires { entries.items ≡ routes_of self.old.core.base.topology }
-        ensures told { MatchBool result
-            (self.new.told ≡ self.old.told ++ publication (length self.old.history.items) (routes_of self.old.core.base.topology) ∷ [])
-            (self.new.told ≡ self.old.told) }
+    /// A router, which is shown what is published here, and knows of the list what the book knows: `RoutersFull` where there are eight, and
+    /// where owners can't be counted any further. It takes no memory.
+    pub fn router(&self) -> Result<Router<D>, RoutersFull>
+        ensures knows { IfOk result (λ router. router ≡ self.now.told) }
+        ensures published { IfOk result (λ router. Published D.scopes D.opening router) }
+    {
+        match self.told().again() {
+            Ok(known) => Router::new(&self.shown, known),
+            Err(_) => Err(RoutersFull),
+        }
+    }
+
+    /// Adds the routes of the topology to the list of publications, with the number of lines of the history as their front, and shows them.
+    /// Answers what is then known of the list. It takes no memory, and no event is taken.
+    fn publish<R: Wait>(&mut self, rt: &R, next: Next) -> Told<D>
+        requires { next ≡ publication (length self.old.history.items) (routes_of self.old.core.base.topology) }
+        ensures told { self.new.told ≡ self.old.told ++ next ∷ [] }
+        ensures is { result ≡ self.new.told }
         ensures core { self.new.core ≡ self.old.core }
         ensures history { self.new.history ≡ self.old.history }
         ensures clients { self.new.clients ≡ self.old.clients }
@@ -180,90 +163,52 @@ impl<D: DeskName> Book<D> {
         routes_of_what_is_served_are_a_view();
         let Book {
             head,
-            history,
             told,
+            shown,
             ..
         } = self;
-        let front = Front(history.len() as u64);
-        listed(head, told, &Next { front, entries })
+        let (kept, answer) = shown.show(rt, added(rt, head, told, next));
+        *told = kept;
+        answer
     }
 
-    /// Asks each watcher of routes with a change of what is to be written so that the view that is pending says what the topology says;
-    /// writes each entry of the last one's notice behind what is pending; adds the routes of the topology to the list of publications,
-    /// with the number of lines of the history as their front; and has what is pending shown to routers. Answers what is then known of
-    /// the list. `K4 NoWatcher` exactly where no watcher has the scope of routes, `K0 Memory`, `K5 WatcherRefused` with the number of the
-    /// first that refuses; they leave the list, and what is shown, as it was. Where memory is short between two entries, those that
-    /// were written stay pending, and the next call counts with them; nothing else of a refusal leaves a trace. No event is taken. It
-    /// waits for routers that still read the publication before the last. (Vitess: the serving VSchema is rebuilt, and routers, which
-    /// watch it, take it over)
-    pub fn tell<W: Asks, R: Wait + Drop>(
+    /// Asks each watcher of routes with a change of what the topology's routes say otherwise than the last publication, and writes each
+    /// entry of the last one's notice to a copy of that publication's routes; adds these to the list of publications, with the number of
+    /// lines of the history as their front; and shows them to routers. Answers what is then known of the list. `K4 NoWatcher` exactly where
+    /// no watcher has the scope of routes, `K0 Memory`, `K5 WatcherRefused` with the number of the first that refuses; they change nothing.
+    /// All memory is taken before anything is added, and `K0 Memory` stands for nothing but want of it, and for owners of a publication
+    /// that can't be counted any further. No event is taken. It waits for routers that just copy what is shown; and for ever, where the list
+    /// is longer than the book knows, which nobody else adds to, or has 2^62 publications. (Vitess: the serving VSchema is rebuilt, and
+    /// routers, which watch it, take it over)
+    pub fn tell<W: Asks, R: Wait>(
         &mut self,
         alloc: Global,
+        rt: &R,
         watchers: &W,
-        routes: &mut Ends<D, R>,
     ) -> Result<Told<D>, DeskFault>
         ensures told { IfOk result (λ told. self.new.told
             ≡ self.old.told ++ publication (length self.old.history.items) (routes_of self.old.core.base.topology) ∷ []) }
         ensures is { IfOk result (λ told. told ≡ self.new.told) }
-        ensures asks { OnOk result ((change : List Entry) × Changes (pending_of routes.old.shown) self.old.core.base.topology change
+        ensures asks { OnOk result ((change : List Entry) × Changes (last_routes self.old.told) self.old.core.base.topology change
             × IsTold (W.scopes watchers.now) (W.may_answer watchers.now) Routes change change) }
         ensures tells { IfOk result (λ told. Tells D.scopes D.opening told) }
-        ensures shows { IfOk result (λ told. published_of routes.new.shown ≡ told) }
-        ensures agrees { OnOk result (Agrees (pending_of routes.new.shown) (routes_of self.old.core.base.topology)) }
         ensures none { OnErr result (self.new.told ≡ self.old.told) }
-        ensures caused { IfErr result (λ fault. AsksNone (W.scopes watchers.now) (W.may_answer watchers.now) (Changes (pending_of routes.old.shown) self.old.core.base.topology) fault) }
-        ensures shown { OnErr result (published_of routes.new.shown ≡ published_of routes.old.shown) }
-        ensures pending { IfErr result (λ fault. LeavesPending (pending_of routes.old.shown) self.old.core.base.topology fault (pending_of routes.new.shown)) }
+        ensures caused { IfErr result (λ fault. AsksNone (W.scopes watchers.now) (W.may_answer watchers.now) (Changes (last_routes self.old.told) self.old.core.base.topology) fault) }
         ensures core { self.new.core ≡ self.old.core }
         ensures history { self.new.history ≡ self.old.history }
         ensures clients { self.new.clients ≡ self.old.clients }
     {
-        self.core.topology().facts();
-        routes_of_a_topology_say_each_of_themselves();
-        what_is_written_agrees();
-        let (list, notice) = noticed(alloc, self.core.topology(), watchers, routes)?;
-        if !routes.write(notice.as_slice()) || !routes.make_room() {
-            return Err(DeskFault::Memory);
-        }
-        if !self.list(list) {
-            return Err(DeskFault::Memory);
-        }
-        routes.publish(&self.told);
-        Ok(self.told())
+        let front = Front(self.history.len() as u64);
+        let next = next_of(alloc, front, self.core.topology(), watchers, &self.told)?;
+        Ok(self.publish(rt, next))
     }
 
-    /// Applies an event, as `Core::apply` tells, and adds its line to the history. `K0 Memory` where there was none for what is kept of the event and of
-    /// its answer, or no place for the line and for the events that are owed: then no event was taken. Nothing is published. An undo with the right
-    /// number before the journal, and a Cancel where nothing is switched and no way is open, take no memory and are done.
+    /// Applies an event, as `Core::apply` tells, and adds its line to the history. The line keeps `kept`, which is the event, and the answer; what is
+    /// answered is a second copy of that, for which `room` has to be there where it may need some. `K0 Memory` where there is no place for the line
+    /// and for the events that are owed, or no room for the line's answer: then no event was taken. Nothing is published. An undo with the
+    /// right number before the journal, and a Cancel where nothing is switched and no way is open, take no memory and are done. (Vitess: a
+    /// vtctldclient command, or a query at a primary)
     pub fn take<W: Asks>(
-        &mut self,
-        watchers: &W,
-        client: u16,
-        event: Event,
-    ) -> Result<Answer, DeskFault>
-        requires scopes { W.scopes watchers.now ≡ D.scopes }
-        ensures line { IfOk result (λ r. self.new.history.items ≡ self.old.history.items ++ line client event r ∷ []) }
-        ensures applies { IfOk result (λ r. AppliesAndPurges (W.scopes watchers.now) (W.may_answer watchers.now) self.old.core (event_of event) (answer_from r) self.new.core) }
-        ensures steps { IfOk result (λ r. CoreSteps (W.scopes watchers.now) self.old.core (event_of event) (answer_from r) self.new.core) }
-        ensures none { OnErr result ((self.new.history.items ≡ self.old.history.items) × (self.new.core ≡ self.old.core)) }
-        ensures clients { self.new.clients.keys ≡ self.old.clients.keys }
-        ensures told { self.new.told ≡ self.old.told }
-        ensures memory { IfErr result (λ fault. fault ≡ DeskFault.Memory) }
-        ensures given_up { CanBeGivenUp self.old.core (event_of event) → result ≡ Ok (Ok Done) }
-        ensures places { CanBeGivenUp self.old.core (event_of event) → vec_capacity self.new.history ≡ vec_capacity self.old.history }
-    {
-        let alloc = *self.history.allocator();
-        let Ok(kept) = CompactEvent::new(alloc, &event) else {
-            return Err(DeskFault::Memory);
-        };
-        let mut room = Room::new(alloc);
-        make_ready(&mut room, &event)?;
-        let answer = self.take_kept(watchers, client, &event, kept, &mut room)?;
-        Ok(answer.copied())
-    }
-
-    /// The same, with what is to be kept of the event, for which no memory is taken, and with room for one answer more, which is kept for whoever asked.
-    pub(crate) fn take_kept<W: Asks>(
         &mut self,
         watchers: &W,
         client: u16,
@@ -282,6 +227,7 @@ impl<D: DeskName> Book<D> {
         ensures told { self.new.told ≡ self.old.told }
         ensures memory { IfErr result (λ fault. fault ≡ DeskFault.Memory) }
         ensures given_up { CanBeGivenUp self.old.core (event_of event.now) → result ≡ Ok (Ok Done) }
+        ensures purged { IsPurged self.old.core.base → IsPurged self.new.core.base }
         ensures places { CanBeGivenUp self.old.core (event_of event.now) → vec_capacity self.new.history ≡ vec_capacity self.old.history }
     {
         each_event_owes_one_at_most();
@@ -321,36 +267,54 @@ impl<D: DeskName> Book<D> {
     }
 
     /// Compares what some passes list with the history: `K7 PassMissing` exactly where a client to whom a pass was given has none of
-    /// them, and else `K1 HistoryDiffers` with a client whose calls differ; `K0 Memory`. The history and what the passes list are read once.
-    pub(crate) fn compare(&self, alloc: Global, passes: &[Pass<D>]) -> Result<(), DeskFault>
-        ensures compares { Compares self.now.clients.keys (map (λ pass. (pass.client, pass.calls.items)) passes.now) self.now.history.items result }
+    /// them, and else `K1 HistoryDiffers` with a client whose calls differ. The history and what the passes list are read once. It takes no memory.
+    pub(crate) fn compare(&mut self, passes: &[Pass<D>]) -> Result<(), DeskFault>
+        ensures compares { Compares self.old.clients.keys (map (λ pass. (pass.client, pass.calls.items)) passes.now) self.old.history.items result }
         ensures one { OnOk result (HaveOneHistory D.scopes D.opening (map (λ pass. (pass.client, pass.calls.items)) passes.now)) }
         ensures caused { IfErr result (λ fault. IsCaused D.scopes D.opening (map (λ pass. (pass.client, pass.calls.items)) passes.now) fault) }
+        ensures history { self.new.history ≡ self.old.history }
+        ensures core { self.new.core ≡ self.old.core }
+        ensures told { self.new.told ≡ self.old.told }
+        ensures clients { self.new.clients ≡ self.old.clients }
     {
-        if passes.len() < self.clients.len() {
+        let Book {
+            history,
+            clients,
+            numbers,
+            ..
+        } = self;
+        numbers.note(passes);
+        if let Some(_client) = numbers.first_without(clients.as_slice()) {
             return Err(DeskFault::PassMissing);
         }
-        let Ok(listed) = clients_of(alloc, passes) else {
-            return Err(DeskFault::Memory);
-        };
-        if !are_there(&listed, self.clients.as_slice()) {
-            return Err(DeskFault::PassMissing);
-        }
-        match first_cause(alloc, passes, &listed, self.history.as_slice()) {
-            Ok(Some(client)) => Err(DeskFault::HistoryDiffers(client)),
-            Ok(None) => Ok(()),
-            Err(_) => Err(DeskFault::Memory),
+        match first_cause(passes, numbers, history.as_slice()) {
+            Some(client) => Err(DeskFault::HistoryDiffers(client)),
+            None => Ok(()),
         }
     }
 
     /// The lines of the history, in their order. It is legal from each state that the core stood for at the opening, and of it the
-    /// headline holds. It takes no memory.
+    /// headline holds; and if no log kept a segment that nobody needs then, none does now. It takes no memory.
     pub fn lines(&self) -> &[Line]
         ensures lines { result.now ≡ self.now.history.items }
         ensures leads { ∥ Leads D.scopes D.opening result.now self.now.core ∥₁ }
+        ensures purged { ∥ StaysPurged D.opening self.now.core ∥₁ }
         ensures headline { (p : Plain) → CoreStands p D.scopes D.opening → ∥ Headline p (asked result.now) (answered result.now) ∥₁ }
     {
         every_run_keeps_the_headline();
         self.history.as_slice()
     }
+}
+
+/// What a new book takes memory for: a history without lines, which has a place for each event that is owed; what it takes to compare passes with it;
+/// and the first publication, of the topology's routes. There is none only when out of memory.
+fn first_lists(alloc: Global, core: &Core) -> Option<(Vec<Line>, Numbers, Next)>
+    ensures none { IfSome result (λ r. r.0.items ≡ []) }
+    ensures room { IfSome result (λ r. vec_len r.0 + owed_to core.now.base.workflows ≤ vec_capacity r.0) }
+    ensures first { IfSome result (λ r. r.2 ≡ publication 0 (routes_of core.now.base.topology)) }
+{
+    let history = new_history(alloc, core).ok()?;
+    let numbers = Numbers::new(alloc).ok()?;
+    let first = first_of(alloc, core.topology()).ok()?;
+    Some((history, numbers, first))
 }

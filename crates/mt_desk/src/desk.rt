@@ -1,8 +1,12 @@
 //! The desk: many threads at one controller.
-ghost use Rattle.std.specs.Prelude.{◌≡◌, ◌⊎◌, ◌++◌, true, [], ◌∷◌, IfErr, IfOk, IsPermutation, OnErr, OnOk, length, map};
+ghost use Rattle.std.specs.Prelude.{◌≡◌, ◌⊎◌, ◌<◌, ◌++◌, true, [], ◌∷◌, IfErr, IfOk, IsPermutation, OnErr, OnOk, length, map};
 ghost use Rattle.std.specs.List.Sorted.{IsNonDecreasingBy};
 ghost use Rattle.mt_model.specs.declared.entries.Scope.TheVariants.{Routes};
 ghost use Rattle.mt_watch.specs.Scopes.{has_scope};
+ghost use Rattle.std.specs.Vec.{vec_capacity};
+ghost use Rattle.mt_event.specs.Events.{event_of};
+ghost use Rattle.mt_desk.specs.Room.{is_undo_or_cancel};
+ghost use Rattle.mt_desk.specs.Taken.{IsTaken};
 ghost use Rattle.mt_desk.specs.Fronts.{Published, Tells, TellsNone};
 ghost use Rattle.mt_desk.specs.Histories.{call};
 ghost use Rattle.mt_desk.specs.Passes.{HaveOneHistory, IsCaused};
@@ -12,28 +16,26 @@ use crate::account::counted_by_client;
 use crate::locked::Locked;
 use crate::{Account, Answer, Book, DeskFault, DeskName, Pass};
 use mt_event::{CompactEvent, Event};
-use mt_routes::{Ends, Opened, Router, Told};
+use mt_routes::{Opened, Router, Told};
 use mt_site::Site;
 use mt_watch::Asks;
 use std::alloc::Global;
 use std::sync::ledger::Blank;
 use std::sync::{Mutex, Wait};
 
-/// The controller behind one lock, with the history of all that was asked of it, and the writer of routes, which waits by `R`. Threads
-/// share a `&` to it. (Vitess: the vtctld server)
+/// The controller behind one lock, with the history of all that was asked of it. Threads share a `&` to it. (Vitess: the vtctld server)
 #[derive(Drop)]
-pub struct Desk<D: DeskName, W: Asks + Drop, R: Wait + Drop> {
+pub struct Desk<D: DeskName, W: Asks + Drop> {
     alloc: Global,
-    locked: Mutex<Locked<D, W, R>>,
+    locked: Mutex<Locked<D, W>>,
 }
 
-impl<D: DeskName, W: Asks + Drop, R: Wait + Drop> Desk<D, W, R> {
-    /// A desk for a controller, under the name of its blank, whose routers are shown the routes of the controller's topology. Three
-    /// copies of them are made, two that are shown in turn and one of what is written, each with room for 4,096 rules and 8,192 tables, so
-    /// that showing others needs no larger ones. `K0 Memory`; then the controller is gone.
+impl<D: DeskName, W: Asks + Drop> Desk<D, W> {
+    /// A desk for a controller, under the name of its blank, whose routers are shown the routes of the controller's topology. `K0 Memory`;
+    /// then the controller is gone.
     pub fn open(
         alloc: Global,
-        rt: R,
+        rt: &impl Wait,
         blank: Blank,
         opened: Opened,
         site: Site<W>,
@@ -46,18 +48,11 @@ impl<D: DeskName, W: Asks + Drop, R: Wait + Drop> Desk<D, W, R> {
         ensures memory { IfErr result (λ fault. fault ≡ DeskFault.Memory) }
     {
         let (core, watchers) = site.into_parts();
-        let (book, entries) = Book::open(alloc, blank, opened, core)?;
-        match Ends::open(alloc, rt, &book.told(), &entries) {
-            Ok(routes) => Ok(Desk {
-                alloc,
-                locked: Mutex::new(Locked {
-                    book,
-                    watchers,
-                    routes,
-                }),
-            }),
-            Err(_) => Err(DeskFault::Memory),
-        }
+        let book = Book::open(alloc, rt, blank, opened, core)?;
+        Ok(Desk {
+            alloc,
+            locked: Mutex::new(Locked { book, watchers }),
+        })
     }
 
     /// A pass for a client, which lists nothing: `K6 ClientTaken`, exactly where that client ever had one, and `K0 Memory`. It is
@@ -72,11 +67,16 @@ impl<D: DeskName, W: Asks + Drop, R: Wait + Drop> Desk<D, W, R> {
 
     /// Asks for an event, and adds it with its answer to what the pass lists: `K0 Memory`, where the pass or the history found no
     /// place for it; then no event was taken. It is one period under the lock, and one event. What is kept of the event is copied before.
+    /// Where the pass has a place, an undo or a Cancel that can give its move up as the controller stands then is done, and takes no memory:
+    /// see `Book::take`.
     pub fn ask(&self, rt: &impl Wait, pass: &mut Pass<D>, event: Event) -> Result<Answer, DeskFault>
         ensures client { pass.new.client ≡ pass.old.client }
         ensures adds { IfOk result (λ r. pass.new.calls.items ≡ pass.old.calls.items ++ call event r ∷ []) }
         ensures none { OnErr result (pass.new.calls.items ≡ pass.old.calls.items) }
         ensures memory { IfErr result (λ fault. fault ≡ DeskFault.Memory) }
+        ensures taken { OnOk result (IsTaken D.scopes D.opening pass.old.client event result) }
+        ensures given_up { length pass.old.calls.items < vec_capacity pass.old.calls → is_undo_or_cancel (event_of event) ≡ true
+            → IsTaken D.scopes D.opening pass.old.client event result }
     {
         pass.make_place(&event)?;
         let Ok(call) = CompactEvent::new(self.alloc, &event) else {
@@ -86,27 +86,31 @@ impl<D: DeskName, W: Asks + Drop, R: Wait + Drop> Desk<D, W, R> {
             return Err(DeskFault::Memory);
         };
         let client = pass.client();
-        let told = self
+        let taken = self
             .locked
             .lock(rt)
-            .take(client, &event, line, &mut pass.room)?;
+            .take(client, &event, line, &mut pass.room);
+        let told = match taken {
+            Ok(told) => told,
+            Err(fault) => return Err(fault),
+        };
         let answer = told.copied();
         pass.add(call, told);
         Ok(answer)
     }
 
-    /// Asks each watcher of routes with a change of the rules and tables that the topology has otherwise than what was written last, writes
-    /// the last one's notice, and shows routers the topology's routes, with the number of lines of the history as their front. A router
+    /// Asks each watcher of routes with a change of the rules and tables that the topology has otherwise than the last publication, writes
+    /// the last one's notice to a copy of that, and shows routers the result, with the number of lines of the history as its front. A router
     /// that learns the answer looks names up in that publication, or in a later one. `K4 NoWatcher` exactly where no watcher has the scope
-    /// of routes, `K0 Memory`, `K5 WatcherRefused` with the number of the first that refuses, `K0 Memory` of the writer; then routers are
-    /// shown nothing new, and the next call tells what stands then. It is one period under the lock, and waits for routers that still read
-    /// the publication before the last. (Vitess: routers watch the serving VSchema)
+    /// of routes, `K0 Memory`, `K5 WatcherRefused` with the number of the first that refuses; they change nothing, and `K0 Memory` stands for
+    /// being out of memory alone, or of a count of a publication's owners. It is one period under the lock, and waits for routers that just copy
+    /// what is shown. (Vitess: routers watch the serving VSchema)
     pub fn tell(&self, rt: &impl Wait) -> Result<Told<D>, DeskFault>
         ensures tells { IfOk result (λ told. Tells D.scopes D.opening told) }
         ensures asks { OnOk result (has_scope D.scopes Routes ≡ true) }
         ensures caused { IfErr result (λ fault. TellsNone D.scopes fault) }
     {
-        self.locked.lock(rt).tell(self.alloc)
+        self.locked.lock(rt).tell(self.alloc, rt)
     }
 
     /// A router, which looks names up without the lock, and knows what was told until now: `K3 RoutersFull`, where there are eight. It is one
@@ -119,8 +123,8 @@ impl<D: DeskName, W: Asks + Drop, R: Wait + Drop> Desk<D, W, R> {
     }
 
     /// Compares what all passes list with the history, and answers how many calls each client made, by client: `K7 PassMissing` where
-    /// a client to whom this desk ever gave a pass isn't among them, `K1 HistoryDiffers` with a client whose calls differ, `K0 Memory`;
-    /// then the passes are given back. It is one period under the lock. At Ok there is one history, legal from each state that the controller stood for at the opening, in
+    /// a client to whom this desk ever gave a pass isn't among them, else `K1 HistoryDiffers` with a client whose calls differ, and at last `K0 Memory`,
+    /// which only the numbers of calls need; then the passes are given back. It is one period under the lock. At Ok there is one history, legal from each state that the controller stood for at the opening, in
     /// which the calls of each client are those of its pass, with its answers, in its order, each once, and there are no others.
     pub fn gather(
         &self,
@@ -133,7 +137,7 @@ impl<D: DeskName, W: Asks + Drop, R: Wait + Drop> Desk<D, W, R> {
         ensures caused { IfErr result (λ refused. IsCaused D.scopes D.opening (map (λ pass. (pass.client, pass.calls.items)) passes.items) refused.0) }
         ensures back { IfErr result (λ refused. refused.1 ≡ passes) }
     {
-        if let Err(fault) = self.locked.lock(rt).compare(self.alloc, passes.as_slice()) {
+        if let Err(fault) = self.locked.lock(rt).compare(passes.as_slice()) {
             return Err((fault, passes));
         }
         match counted_by_client(self.alloc, passes.as_slice()) {
@@ -142,7 +146,7 @@ impl<D: DeskName, W: Asks + Drop, R: Wait + Drop> Desk<D, W, R> {
         }
     }
 
-    /// Ends the desk. It waits until no router reads; those that are left answer that they are closed.
+    /// Ends the desk. Routers that are left go on answering by what they know.
     pub fn close(self, _rt: &impl Wait) {
         let Desk { alloc: _, locked } = self;
         drop(locked);

@@ -7,7 +7,7 @@ use thiserror::Error;
 /// passes as they were.
 #[derive(Clone, Copy, Debug, Eq, Error, PartialEq)]
 pub enum DeskFault {
-    /// No memory was left.
+    /// No memory was left, or the owners of a publication can't be counted any further.
     Memory,
     /// The calls of this client in the history aren't those that its pass lists.
     HistoryDiffers(u16),

@@ -4,14 +4,15 @@
 mod account;
 mod answered;
 mod book;
-mod chains;
 mod desk;
 mod fault;
 mod history;
 mod listed;
 mod locked;
 mod name;
+mod numbers;
 mod pass;
+mod reading;
 mod room;
 mod tell;
 
@@ -20,7 +21,7 @@ pub use book::Book;
 pub use desk::Desk;
 pub use fault::DeskFault;
 pub use history::{Call, Line};
-pub use mt_event::Answer;
-pub use mt_routes::{Front, Router, Told};
+pub use mt_event::{Answer, CompactAnswer, CompactEvent, Room};
+pub use mt_routes::{Front, Opened, Router, Told};
 pub use name::DeskName;
 pub use pass::Pass;

@@ -1,17 +1,50 @@
 //! The list of publications, as it grows.
-ghost use Rattle.std.specs.Prelude.{◌≡◌, ◌≤◌, ◌++◌, [], ◌∷◌, MatchBool};
-ghost use Rattle.mt_routes.specs.Publications.{last_front, publication};
+ghost use Rattle.std.specs.Prelude.{◌≡◌, ◌≤◌, ◌++◌, [], ◌∷◌};
+ghost use Rattle.mt_routes.specs.Publications.{last_front};
 
-use mt_routes::{Head, Naming, Next, Told};
+use mt_routes::{Added, Head, Naming, Next, Opened, Told};
+use std::sync::Wait;
 
 /// How many publications a list has at most.
 const LONGEST: u64 = 1 << 62;
 
-/// Adds a publication behind all that is known of a list, and says whether it did. It didn't where the list has 2^62 publications, and
-/// where it is longer than is known. It takes no memory.
-pub(crate) fn listed<J: Naming>(head: &Head<J>, told: &mut Told<J>, next: &Next) -> bool
-    requires { last_front told.old ≤ next.now.front.0 }
-    ensures { MatchBool result (told.new ≡ told.old ++ publication next.now.front.0 next.now.entries.items ∷ []) (told.new ≡ told.old) }
+/// The head of a list under its name, and the first publication, which was added to it. It takes no memory. It waits for ever where
+/// another was added before, as nobody does: only the list's head adds, and it is made here.
+pub(crate) fn begun<J: Naming, R: Wait>(rt: &R, opened: Opened, first: Next) -> (Head<J>, Added<J>)
+    requires { opened.seen.book ≡ J.book }
+    ensures { result.1 ≡ first ∷ [] }
 {
-    told.len() < LONGEST && told.add(head, next)
+    if let Some(both) = opened.named::<J>(first) {
+        return both;
+    }
+    stop(rt);
+    unreachable!()
+}
+
+/// Adds a publication behind all that is known of a list. It takes no memory. It waits for ever where the list is longer than is known, as
+/// it never is where one alone adds to it, and where it has 2^62 publications.
+pub(crate) fn added<J: Naming, R: Wait>(
+    rt: &R,
+    head: &Head<J>,
+    told: &Told<J>,
+    next: Next,
+) -> Added<J>
+    requires { last_front told.now ≤ next.front }
+    ensures { result ≡ told.now ++ next ∷ [] }
+{
+    if told.len() < LONGEST {
+        if let Some(added) = told.add(head, next) {
+            return added;
+        }
+    }
+    stop(rt);
+    unreachable!()
+}
+
+/// Never returns.
+fn stop<R: Wait>(rt: &R)
+    ensures { ⊥ }
+{
+    for _ in rt.forever() {}
+    unreachable!()
 }

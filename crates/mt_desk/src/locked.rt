@@ -4,28 +4,28 @@ ghost use Rattle.mt_event.specs.Events.{event_of};
 ghost use Rattle.mt_event.specs.Rooms.{IsReady};
 ghost use Rattle.mt_model.specs.declared.entries.Scope.TheVariants.{Routes};
 ghost use Rattle.mt_watch.specs.Scopes.{has_scope};
+ghost use Rattle.mt_desk.specs.Taken.{IsTaken};
 ghost use Rattle.mt_desk.specs.Fronts.{Published, Tells, TellsNone};
 ghost use Rattle.mt_desk.specs.Passes.{HaveOneHistory, IsCaused};
 ghost use Rattle.mt_desk.specs.Room.{is_undo_or_cancel};
 
 use crate::{Book, DeskFault, DeskName, Pass};
 use mt_event::{CompactAnswer, CompactEvent, Event, Room};
-use mt_routes::{Ends, Router, Told};
+use mt_routes::{Router, Told};
 use mt_watch::Asks;
 use std::alloc::Global;
 use std::sync::Wait;
 
-/// What lies under the lock: the book, the watchers that its controller asks, and the writer of routes.
+/// What lies under the lock: the book, and the watchers that its controller asks.
 #[derive(Drop)]
-pub(crate) struct Locked<D: DeskName, W: Asks + Drop, R: Wait + Drop> {
+pub(crate) struct Locked<D: DeskName, W: Asks + Drop> {
     pub(crate) book: Book<D>,
     pub(crate) watchers: W,
-    pub(crate) routes: Ends<D, R>,
     ghost scoped: { W.scopes watchers ≡ D.scopes },
 }
 
-impl<D: DeskName, W: Asks + Drop, R: Wait + Drop> Locked<D, W, R> {
-    /// See `Book::take_kept`.
+impl<D: DeskName, W: Asks + Drop> Locked<D, W> {
+    /// See `Book::take`. The history that the book has is legal, and so it is with the line.
     pub(crate) fn take(
         &mut self,
         client: u16,
@@ -35,10 +35,11 @@ impl<D: DeskName, W: Asks + Drop, R: Wait + Drop> Locked<D, W, R> {
     ) -> Result<CompactAnswer, DeskFault>
         requires kept { kept ≡ event.now }
         requires ready { is_undo_or_cancel (event_of event.now) ≡ false → IsReady room.old }
+        ensures taken { IsTaken D.scopes D.opening client event.now result }
         ensures memory { IfErr result (λ fault. fault ≡ DeskFault.Memory) }
     {
         let Locked { book, watchers, .. } = self;
-        book.take_kept(watchers, client, event, kept, room)
+        book.take(watchers, client, event, kept, room)
     }
 
     /// See `Book::admit`.
@@ -50,34 +51,31 @@ impl<D: DeskName, W: Asks + Drop, R: Wait + Drop> Locked<D, W, R> {
     }
 
     /// See `Book::compare`.
-    pub(crate) fn compare(&self, alloc: Global, passes: &[Pass<D>]) -> Result<(), DeskFault>
+    pub(crate) fn compare(&mut self, passes: &[Pass<D>]) -> Result<(), DeskFault>
         ensures one { OnOk result (HaveOneHistory D.scopes D.opening (map (λ pass. (pass.client, pass.calls.items)) passes.now)) }
         ensures caused { IfErr result (λ fault. IsCaused D.scopes D.opening (map (λ pass. (pass.client, pass.calls.items)) passes.now) fault) }
     {
-        self.book.compare(alloc, passes)
+        let Locked { book, .. } = self;
+        book.compare(passes)
     }
 
     /// See `Book::tell`.
-    pub(crate) fn tell(&mut self, alloc: Global) -> Result<Told<D>, DeskFault>
+    pub(crate) fn tell<R: Wait>(&mut self, alloc: Global, rt: &R) -> Result<Told<D>, DeskFault>
         ensures tells { IfOk result (λ told. Tells D.scopes D.opening told) }
         ensures asks { OnOk result (has_scope D.scopes Routes ≡ true) }
         ensures caused { IfErr result (λ fault. TellsNone D.scopes fault) }
     {
-        let Locked {
-            book,
-            watchers,
-            routes,
-        } = self;
-        book.tell(alloc, watchers, routes)
+        let Locked { book, watchers, .. } = self;
+        book.tell(alloc, rt, watchers)
     }
 
-    /// A router, which knows what the book knows of the list: `K3 RoutersFull`.
+    /// See `Book::router`: `K3 RoutersFull`.
     pub(crate) fn router(&self) -> Result<Router<D>, DeskFault>
         ensures knows { IfOk result (λ router. router ≡ self.now.book.told) }
         ensures published { IfOk result (λ router. Published D.scopes D.opening router) }
         ensures full { IfErr result (λ fault. fault ≡ DeskFault.RoutersFull) }
     {
-        match self.routes.router(self.book.told()) {
+        match self.book.router() {
             Ok(router) => Ok(router),
             Err(_) => Err(DeskFault::RoutersFull),
         }

@@ -1,5 +1,5 @@
 //! What a client asks with.
-ghost use Rattle.std.specs.Prelude.{◌≡◌, ◌+◌, ◌<◌, ◌≤◌, ◌++◌, [], ◌∷◌, false, true, IfErr, OnOk, length};
+ghost use Rattle.std.specs.Prelude.{◌≡◌, ◌+◌, ◌<◌, ◌≤◌, ◌++◌, [], ◌∷◌, false, true, IfErr, IsOk, OnOk, length};
 ghost use Rattle.std.specs.Vec.{vec_capacity};
 ghost use Rattle.mt_event.specs.Events.{event_of};
 ghost use Rattle.mt_event.specs.Rooms.{IsReady};
@@ -66,12 +66,14 @@ impl<D: DeskName> Pass<D> {
         }
     }
 
-    /// Makes a place for a call of an event, and room for its answer if that may need some: `K0 Memory`, which leaves what it lists.
+    /// Makes a place for a call of an event, and room for its answer if that may need some: `K0 Memory`, which leaves what it lists. It takes no
+    /// memory for an undo or a Cancel where there is a place.
     pub(crate) fn make_place(&mut self, event: &Event) -> Result<(), DeskFault>
         ensures client { self.new.client ≡ self.old.client }
         ensures calls { self.new.calls.items ≡ self.old.calls.items }
         ensures place { OnOk result (length self.old.calls.items < vec_capacity self.new.calls) }
         ensures room { OnOk result (is_undo_or_cancel (event_of event.now) ≡ false → IsReady self.new.room) }
+        ensures none { length self.old.calls.items < vec_capacity self.old.calls → is_undo_or_cancel (event_of event.now) ≡ true → IsOk result }
         ensures memory { IfErr result (λ fault. fault ≡ DeskFault.Memory) }
     {
         if self.calls.reserve(1).is_err() {

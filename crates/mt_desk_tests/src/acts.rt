@@ -53,9 +53,9 @@ fn place_of<D: DeskName>(passes: &[Pass<D>], client: u16) -> Option<usize> {
 }
 
 /// Whether a client gets a pass, or this refusal.
-fn gets<D: DeskName, W: Asks + Drop, R: Wait + Drop>(
+fn gets<D: DeskName, W: Asks + Drop>(
     rt: &impl Wait,
-    desk: &Desk<D, W, R>,
+    desk: &Desk<D, W>,
     passes: &mut Vec<Pass<D>>,
     client: u16,
     refusal: Option<DeskFault>,
@@ -67,9 +67,9 @@ fn gets<D: DeskName, W: Asks + Drop, R: Wait + Drop>(
 }
 
 /// Whether a client is answered so, and its pass lists one call more.
-pub fn asks<D: DeskName, W: Asks + Drop, R: Wait + Drop>(
+pub fn asks<D: DeskName, W: Asks + Drop>(
     rt: &impl Wait,
-    desk: &Desk<D, W, R>,
+    desk: &Desk<D, W>,
     pass: &mut Pass<D>,
     line: &str,
     want: &str,
@@ -102,9 +102,9 @@ fn are_taken<D: DeskName>(
 }
 
 /// Whether passes that are handed in are given back with this refusal, to those from which they were taken.
-fn are_refused<D: DeskName, W: Asks + Drop, R: Wait + Drop>(
+fn are_refused<D: DeskName, W: Asks + Drop>(
     rt: &impl Wait,
-    desk: &Desk<D, W, R>,
+    desk: &Desk<D, W>,
     passes: &mut Vec<Pass<D>>,
     taken: Vec<Pass<D>>,
     refusal: DeskFault,
@@ -120,10 +120,10 @@ fn are_refused<D: DeskName, W: Asks + Drop, R: Wait + Drop>(
 }
 
 /// Whether so many passes are handed in and given back, with this refusal.
-fn gathers_none<D: DeskName, W: Asks + Drop, R: Wait + Drop>(
+fn gathers_none<D: DeskName, W: Asks + Drop>(
     rt: &impl Wait,
     alloc: Global,
-    desk: &Desk<D, W, R>,
+    desk: &Desk<D, W>,
     passes: &mut Vec<Pass<D>>,
     count: usize,
     refusal: DeskFault,
@@ -137,9 +137,9 @@ fn gathers_none<D: DeskName, W: Asks + Drop, R: Wait + Drop>(
 }
 
 /// Whether all passes are handed in, and each client is answered with the number of its calls.
-pub fn gathers<D: DeskName, W: Asks + Drop, R: Wait + Drop>(
+pub fn gathers<D: DeskName, W: Asks + Drop>(
     rt: &impl Wait,
-    desk: &Desk<D, W, R>,
+    desk: &Desk<D, W>,
     passes: Vec<Pass<D>>,
     want: &[(u16, u64)],
 ) -> bool {
@@ -156,10 +156,10 @@ fn pass_of<D: DeskName>(passes: &mut Vec<Pass<D>>, client: u16) -> Option<&mut P
 }
 
 /// Whether an act is so.
-fn is_so<D: DeskName, W: Asks + Drop, R: Wait + Drop>(
+fn is_so<D: DeskName, W: Asks + Drop>(
     rt: &impl Wait,
     alloc: Global,
-    desk: &Desk<D, W, R>,
+    desk: &Desk<D, W>,
     passes: &mut Vec<Pass<D>>,
     routing: &mut Routing<D>,
     act: Act,
@@ -185,10 +185,10 @@ fn is_so<D: DeskName, W: Asks + Drop, R: Wait + Drop>(
 }
 
 /// The index of the first act that isn't so.
-fn first_wrong<D: DeskName, W: Asks + Drop, R: Wait + Drop>(
+fn first_wrong<D: DeskName, W: Asks + Drop>(
     rt: &impl Wait,
     alloc: Global,
-    desk: &Desk<D, W, R>,
+    desk: &Desk<D, W>,
     passes: &mut Vec<Pass<D>>,
     routing: &mut Routing<D>,
     acts: &[Act],
@@ -202,10 +202,10 @@ fn first_wrong<D: DeskName, W: Asks + Drop, R: Wait + Drop>(
 }
 
 /// How acts go at a desk, in their order up to the first that isn't so.
-pub fn play<D: DeskName, W: Asks + Drop, R: Wait + Drop>(
+pub fn play<D: DeskName, W: Asks + Drop>(
     rt: &impl Wait,
     alloc: Global,
-    desk: &Desk<D, W, R>,
+    desk: &Desk<D, W>,
     acts: &[Act],
 ) -> Played {
     let (mut passes, mut routing) = (Vec::new(alloc), Routing::new(alloc));

@@ -15,9 +15,9 @@ use std::sync::Wait;
 use std::sync::ledger::Blank;
 
 /// A new client asks for an event. Answers its pass, which lists just this call, and the answer, if there was memory for all.
-fn ask_once<D: DeskName, W: Asks + Drop, R: Wait + Drop>(
+fn ask_once<D: DeskName, W: Asks + Drop, R: Wait>(
     rt: &R,
-    desk: &Desk<D, W, R>,
+    desk: &Desk<D, W>,
     client: u16,
     event: Event,
 ) -> Option<(Pass<D>, Answer)>
@@ -33,10 +33,10 @@ fn ask_once<D: DeskName, W: Asks + Drop, R: Wait + Drop>(
 }
 
 /// Hands in two passes, and says whether they are gathered: then there is one legal history with just their calls.
-fn gather_two<D: DeskName, W: Asks + Drop, R: Wait + Drop>(
+fn gather_two<D: DeskName, W: Asks + Drop, R: Wait>(
     rt: &R,
     alloc: Global,
-    desk: &Desk<D, W, R>,
+    desk: &Desk<D, W>,
     one: Pass<D>,
     two: Pass<D>,
 ) -> bool
@@ -49,10 +49,10 @@ fn gather_two<D: DeskName, W: Asks + Drop, R: Wait + Drop>(
 }
 
 /// Clients 1 and 2 ask for an event each, and hand in their passes. Answers both answers, if there was memory for all.
-fn ask_both<D: DeskName, W: Asks + Drop, R: Wait + Drop>(
+fn ask_both<D: DeskName, W: Asks + Drop, R: Wait>(
     rt: &R,
     alloc: Global,
-    desk: &Desk<D, W, R>,
+    desk: &Desk<D, W>,
     first: Event,
     second: Event,
 ) -> Option<(Answer, Answer)>
@@ -68,8 +68,8 @@ fn ask_both<D: DeskName, W: Asks + Drop, R: Wait + Drop>(
 }
 
 /// Both ask as in `ask_both`, at a desk that is opened under the name of a blank.
-fn ask_both_anew<D: DeskName, W: Asks + Drop, R: Wait + Drop + Copy>(
-    rt: R,
+fn ask_both_anew<D: DeskName, W: Asks + Drop, R: Wait>(
+    rt: &R,
     alloc: Global,
     blank: Blank,
     opened: Opened,
@@ -84,19 +84,19 @@ fn ask_both_anew<D: DeskName, W: Asks + Drop, R: Wait + Drop + Copy>(
     requires stood { IsCoreWith D.scopes site.core }
     ensures { IfSome result (λ answers. HaveOneHistory D.scopes D.opening ((1, call first answers.0 ∷ []) ∷ (2, call second answers.1 ∷ []) ∷ [])) }
 {
-    let made: Result<Desk<D, W, R>, DeskFault> = Desk::open(alloc, rt, blank, opened, site);
+    let made: Result<Desk<D, W>, DeskFault> = Desk::open(alloc, rt, blank, opened, site);
     let Ok(desk) = made else {
         return None;
     };
-    let answers = ask_both(&rt, alloc, &desk, first, second);
-    desk.close(&rt);
+    let answers = ask_both(rt, alloc, &desk, first, second);
+    desk.close(rt);
     answers
 }
 
 /// Clients 1 and 2 ask a controller for an event each. Answers both answers, if there was memory for all: then there is one legal
 /// history with just these two calls.
-pub fn two_calls<W: Asks + Drop, R: Wait + Drop + Copy>(
-    rt: R,
+pub fn two_calls<W: Asks + Drop, R: Wait>(
+    rt: &R,
     alloc: Global,
     site: Site<W>,
     first: Event,

@@ -55,7 +55,7 @@ fn each_call_is_gathered_once(rt: HostRuntime) -> Result<(), Fail> {
 }
 
 /// What an insert and a get of its row are answered, by two clients.
-fn both_answers<R: Wait + Drop + Copy>(rt: R, alloc: Global) -> Option<(Answer, Answer)> {
+fn both_answers<R: Wait>(rt: &R, alloc: Global) -> Option<(Answer, Answer)> {
     let insert = event_of("at commerce.corder insert 1 a")?;
     let get = event_of("at commerce.corder get 1")?;
     let watchers = two_watchers(alloc)?;

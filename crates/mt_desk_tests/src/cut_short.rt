@@ -1,4 +1,4 @@
-//! A tell that memory cuts short between two entries shows nothing, and the next one tells what stands then.
+//! A tell that memory cuts short between two entries leaves nothing behind, and the next one tells what stands then.
 
 use crate::acts::Played;
 use crate::desk_memory::pass_of;
@@ -8,7 +8,7 @@ use crate::told_memory::is_done;
 use mt_desk::{Desk, DeskFault, DeskName, Pass};
 use mt_model::TopologyFault;
 use mt_names::{RuleKey, TabletType};
-use mt_routes::{Front, RouteFault, Router, Told};
+use mt_routes::{Front, Router, Told};
 use mt_watch::Asks;
 use std::sync::Wait;
 use std::test::Fail;
@@ -20,8 +20,7 @@ static BEFORE: [&str; 3] = [
     "table commerce corder",
 ];
 
-/// Rules whose entries come before those of `x` and `y`. What is pending grows by doubling from four places on: behind three of these
-/// rules, or seven, it grows between the two.
+/// Rules whose entries come before those of `x` and `y`, so that the maps that these are written to grow in between.
 static OTHERS: [&str; 7] = [
     "rule a commerce.a",
     "rule b commerce.b",
@@ -39,17 +38,16 @@ static TWO: [&str; 2] = ["rule x commerce.x", "rule y commerce.y"];
 fn is_unled<D: DeskName>(router: &mut Router<D>, name: &str, front: u64) -> bool {
     match RuleKey::parse(name) {
         Ok(key) => {
-            router.route(&key, TabletType::Primary)
-                == Err(RouteFault::Refused(TopologyFault::NoTable, Front(front)))
+            router.route(&key, TabletType::Primary) == Err((TopologyFault::NoTable, Front(front)))
         }
         Err(_) => false,
     }
 }
 
 /// Whether all lines are done.
-fn are_done<D: DeskName, W: Asks + Drop, R: Wait + Drop>(
+fn are_done<D: DeskName, W: Asks + Drop>(
     rt: &impl Wait,
-    desk: &Desk<D, W, R>,
+    desk: &Desk<D, W>,
     pass: &mut Pass<D>,
     lines: &[&str],
 ) -> bool {
@@ -62,9 +60,9 @@ fn are_done<D: DeskName, W: Asks + Drop, R: Wait + Drop>(
 }
 
 /// Whether what stands is told, or is refused, and both names lead where they did at the opening.
-fn is_told_or_refused<D: DeskName, W: Asks + Drop, R: Wait + Drop>(
+fn is_told_or_refused<D: DeskName, W: Asks + Drop>(
     rt: &impl Wait,
-    desk: &Desk<D, W, R>,
+    desk: &Desk<D, W>,
     router: &mut Router<D>,
 ) -> bool {
     match desk.tell(rt) {
@@ -80,10 +78,7 @@ fn is_told_or_refused<D: DeskName, W: Asks + Drop, R: Wait + Drop>(
 }
 
 /// What is told at once, or at a second try.
-fn told_at_last<D: DeskName, W: Asks + Drop, R: Wait + Drop>(
-    rt: &impl Wait,
-    desk: &Desk<D, W, R>,
-) -> Option<Told<D>> {
+fn told_at_last<D: DeskName, W: Asks + Drop>(rt: &impl Wait, desk: &Desk<D, W>) -> Option<Told<D>> {
     match desk.tell(rt) {
         Ok(told) => Some(told),
         Err(_) => desk.tell(rt).ok(),
@@ -91,9 +86,9 @@ fn told_at_last<D: DeskName, W: Asks + Drop, R: Wait + Drop>(
 }
 
 /// Whether, once the rule of `x` is taken away, only that of `y` is told.
-fn is_one_told<D: DeskName, W: Asks + Drop, R: Wait + Drop>(
+fn is_one_told<D: DeskName, W: Asks + Drop>(
     rt: &impl Wait,
-    desk: &Desk<D, W, R>,
+    desk: &Desk<D, W>,
     pass: &mut Pass<D>,
     router: &mut Router<D>,
 ) -> bool {
@@ -111,9 +106,9 @@ fn is_one_told<D: DeskName, W: Asks + Drop, R: Wait + Drop>(
 }
 
 /// Whether both rules are told behind so many others, or neither, and then only that which still stands.
-fn is_kept_apart<D: DeskName, W: Asks + Drop, R: Wait + Drop>(
+fn is_kept_apart<D: DeskName, W: Asks + Drop>(
     rt: &impl Wait,
-    desk: &Desk<D, W, R>,
+    desk: &Desk<D, W>,
     pass: &mut Pass<D>,
     router: &mut Router<D>,
     others: usize,
@@ -128,9 +123,9 @@ fn is_kept_apart<D: DeskName, W: Asks + Drop, R: Wait + Drop>(
 }
 
 /// The same by a new router.
-fn is_kept_apart_anew<D: DeskName, W: Asks + Drop, R: Wait + Drop>(
+fn is_kept_apart_anew<D: DeskName, W: Asks + Drop>(
     rt: &impl Wait,
-    desk: &Desk<D, W, R>,
+    desk: &Desk<D, W>,
     pass: &mut Pass<D>,
     others: usize,
 ) -> Played {
@@ -143,9 +138,9 @@ fn is_kept_apart_anew<D: DeskName, W: Asks + Drop, R: Wait + Drop>(
 }
 
 /// How a tell of two rules behind so many others goes, where one allocation may fail.
-pub fn is_cut_short_well<D: DeskName, W: Asks + Drop, R: Wait + Drop>(
+pub fn is_cut_short_well<D: DeskName, W: Asks + Drop>(
     rt: &impl Wait,
-    desk: &Desk<D, W, R>,
+    desk: &Desk<D, W>,
     others: usize,
 ) -> Played {
     let Some(mut pass) = pass_of(rt, desk, 1) else {

@@ -17,8 +17,8 @@ use std::thread::Threads;
 
 /// A desk, with a client's pass and a router.
 #[derive(Drop)]
-struct AtDesk<'a, D: DeskName, W: Asks + Drop, R: Wait + Drop> {
-    desk: &'a Desk<D, W, R>,
+struct AtDesk<'a, D: DeskName, W: Asks + Drop> {
+    desk: &'a Desk<D, W>,
     pass: &'a mut Pass<D>,
     router: &'a mut Router<D>,
 }
@@ -32,7 +32,7 @@ fn led<D: DeskName>(router: &mut Router<D>, name: &str) -> Option<RuleTarget> {
     }
 }
 
-impl<D: DeskName, W: Asks + Drop, R: Wait + Drop> Venue for AtDesk<'_, D, W, R> {
+impl<D: DeskName, W: Asks + Drop> Venue for AtDesk<'_, D, W> {
     fn ask<H: Wait>(&mut self, rt: &H, event: Event) -> Option<Answer> {
         self.desk.ask(rt, self.pass, event).ok()
     }
@@ -60,9 +60,9 @@ impl<D: DeskName, W: Asks + Drop, R: Wait + Drop> Venue for AtDesk<'_, D, W, R> 
 }
 
 /// A client's pass, at once or at a second try.
-pub fn pass_of<D: DeskName, W: Asks + Drop, R: Wait + Drop>(
+pub fn pass_of<D: DeskName, W: Asks + Drop>(
     rt: &impl Wait,
-    desk: &Desk<D, W, R>,
+    desk: &Desk<D, W>,
     client: u16,
 ) -> Option<Pass<D>> {
     match desk.pass(rt, client) {
@@ -72,10 +72,10 @@ pub fn pass_of<D: DeskName, W: Asks + Drop, R: Wait + Drop>(
 }
 
 /// Whether a pass alone is gathered, at once or at a second try, with the number of its calls.
-fn is_gathered<D: DeskName, W: Asks + Drop, R: Wait + Drop>(
+fn is_gathered<D: DeskName, W: Asks + Drop>(
     rt: &impl Wait,
     alloc: Global,
-    desk: &Desk<D, W, R>,
+    desk: &Desk<D, W>,
     pass: Pass<D>,
 ) -> bool {
     let want = [(pass.client(), pass.calls().len() as u64)];
@@ -91,9 +91,9 @@ fn is_gathered<D: DeskName, W: Asks + Drop, R: Wait + Drop>(
 }
 
 /// The first line of a move that is answered otherwise to a client with a pass.
-fn first_wrong_of<D: DeskName, W: Asks + Drop, R: Wait + Drop, H: Wait>(
+fn first_wrong_of<D: DeskName, W: Asks + Drop, H: Wait>(
     rt: &H,
-    desk: &Desk<D, W, R>,
+    desk: &Desk<D, W>,
     pass: &mut Pass<D>,
     of: Move,
 ) -> Option<usize> {
@@ -111,10 +111,10 @@ fn first_wrong_of<D: DeskName, W: Asks + Drop, R: Wait + Drop, H: Wait>(
 }
 
 /// How a move goes at a desk, up to the first line that is answered otherwise.
-pub fn is_moved<D: DeskName, W: Asks + Drop, R: Wait + Drop, H: Wait>(
+pub fn is_moved<D: DeskName, W: Asks + Drop, H: Wait>(
     rt: &H,
     alloc: Global,
-    desk: &Desk<D, W, R>,
+    desk: &Desk<D, W>,
     of: &Move,
 ) -> Played {
     let Some(mut pass) = pass_of(rt, desk, 1) else {

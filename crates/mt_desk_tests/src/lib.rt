@@ -4,13 +4,17 @@
 #![tactic(auto)]
 
 mod caller;
+mod giving_up;
 mod routing;
 
 pub use caller::two_calls;
+pub use giving_up::{GivenUp, given_up_at_a_book};
 pub use routing::route_told;
 
 #[cfg(test)]
 mod acts;
+#[cfg(test)]
+mod book_memory;
 #[cfg(test)]
 mod calls;
 #[cfg(test)]

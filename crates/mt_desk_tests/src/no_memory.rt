@@ -41,9 +41,9 @@ static UNDONE: [&str; 6] = [
 ];
 
 /// Whether a client asks for an event that is taken.
-fn is_taken<D: DeskName, W: Asks + Drop, R: Wait + Drop>(
+fn is_taken<D: DeskName, W: Asks + Drop>(
     rt: &impl Wait,
-    desk: &Desk<D, W, R>,
+    desk: &Desk<D, W>,
     pass: &mut Pass<D>,
     line: &str,
 ) -> bool {
@@ -54,9 +54,9 @@ fn is_taken<D: DeskName, W: Asks + Drop, R: Wait + Drop>(
 }
 
 /// How many events are taken, up to the first that isn't.
-fn taken<D: DeskName, W: Asks + Drop, R: Wait + Drop>(
+fn taken<D: DeskName, W: Asks + Drop>(
     rt: &impl Wait,
-    desk: &Desk<D, W, R>,
+    desk: &Desk<D, W>,
     pass: &mut Pass<D>,
     lines: &[&str],
 ) -> usize {
@@ -69,9 +69,9 @@ fn taken<D: DeskName, W: Asks + Drop, R: Wait + Drop>(
 }
 
 /// Whether a switch of which so many events were taken, its copy among them, is undone.
-fn is_undone<D: DeskName, W: Asks + Drop, R: Wait + Drop>(
+fn is_undone<D: DeskName, W: Asks + Drop>(
     rt: &impl Wait,
-    desk: &Desk<D, W, R>,
+    desk: &Desk<D, W>,
     pass: &mut Pass<D>,
     events: usize,
 ) -> bool {
@@ -86,9 +86,9 @@ fn is_undone<D: DeskName, W: Asks + Drop, R: Wait + Drop>(
 }
 
 /// How a move goes that is given up by a client with this pass.
-fn given_up<D: DeskName, W: Asks + Drop, R: Wait + Drop>(
+fn given_up<D: DeskName, W: Asks + Drop>(
     rt: &impl Wait,
-    desk: &Desk<D, W, R>,
+    desk: &Desk<D, W>,
     pass: &mut Pass<D>,
 ) -> Played {
     if pass.reserve(24).is_err() || taken(rt, desk, pass, &CREATED) < CREATED.len() {
@@ -103,10 +103,7 @@ fn given_up<D: DeskName, W: Asks + Drop, R: Wait + Drop>(
 }
 
 /// How a move goes that is given up: its switch is undone, and it is cancelled. Where it couldn't be begun there is nothing to give up.
-pub fn is_given_up<D: DeskName, W: Asks + Drop, R: Wait + Drop>(
-    rt: &impl Wait,
-    desk: &Desk<D, W, R>,
-) -> Played {
+pub fn is_given_up<D: DeskName, W: Asks + Drop>(rt: &impl Wait, desk: &Desk<D, W>) -> Played {
     let Ok(mut pass) = desk.pass(rt, 1) else {
         return Played::AllSo;
     };

@@ -165,7 +165,7 @@ pub fn site_of<W: Asks + Drop>(alloc: Global, watchers: W, lines: &[&str]) -> Op
 fn goes<D: DeskName + Send + Sync, W: Asks + Drop + Send, R: Threads + Wait + Sync>(
     rt: &R,
     alloc: Global,
-    desk: &Desk<D, W, &R>,
+    desk: &Desk<D, W>,
     trial: Trial<'_>,
 ) -> Played {
     match trial {
@@ -196,7 +196,7 @@ fn at_a_desk<D: DeskName + Send + Sync, W: Asks + Drop + Send, R: Threads + Wait
     requires scopes { W.scopes site.watchers ≡ D.scopes }
     requires stood { IsCoreWith D.scopes site.core }
 {
-    let made: Result<Desk<D, W, &R>, DeskFault> = Desk::open(alloc, rt, blank, opened, site);
+    let made: Result<Desk<D, W>, DeskFault> = Desk::open(alloc, rt, blank, opened, site);
     let Ok(desk) = made else {
         return Played::NotMade;
     };

@@ -56,10 +56,7 @@ fn follows<D: DeskName>(router: &mut Router<D>) -> bool {
 }
 
 /// Whether the answers of a new router follow each other so.
-fn reads_on<D: DeskName, W: Asks + Drop, R: Wait + Drop>(
-    rt: &impl Wait,
-    desk: &Desk<D, W, R>,
-) -> bool {
+fn reads_on<D: DeskName, W: Asks + Drop>(rt: &impl Wait, desk: &Desk<D, W>) -> bool {
     let Ok(mut router) = desk.router(rt) else {
         return false;
     };
@@ -69,9 +66,9 @@ fn reads_on<D: DeskName, W: Asks + Drop, R: Wait + Drop>(
 }
 
 /// Whether an edit is done, and told with its number.
-fn is_told<D: DeskName, W: Asks + Drop, R: Wait + Drop>(
+fn is_told<D: DeskName, W: Asks + Drop>(
     rt: &impl Wait,
-    desk: &Desk<D, W, R>,
+    desk: &Desk<D, W>,
     pass: &mut Pass<D>,
     number: u64,
 ) -> bool {
@@ -86,9 +83,9 @@ fn is_told<D: DeskName, W: Asks + Drop, R: Wait + Drop>(
 }
 
 /// Whether a client makes each edit, and tells it.
-fn are_told<D: DeskName, W: Asks + Drop, R: Wait + Drop>(
+fn are_told<D: DeskName, W: Asks + Drop>(
     rt: &impl Wait,
-    desk: &Desk<D, W, R>,
+    desk: &Desk<D, W>,
     pass: &mut Pass<D>,
 ) -> bool {
     for number in 1..=MANY {
@@ -100,11 +97,7 @@ fn are_told<D: DeskName, W: Asks + Drop, R: Wait + Drop>(
 }
 
 /// Whether a new client does, and its calls are gathered.
-fn edits_on<D: DeskName, W: Asks + Drop, R: Wait + Drop>(
-    rt: &impl Wait,
-    alloc: Global,
-    desk: &Desk<D, W, R>,
-) -> bool {
+fn edits_on<D: DeskName, W: Asks + Drop>(rt: &impl Wait, alloc: Global, desk: &Desk<D, W>) -> bool {
     let Ok(mut pass) = desk.pass(rt, 1) else {
         return false;
     };
@@ -118,7 +111,7 @@ fn edits_on<D: DeskName, W: Asks + Drop, R: Wait + Drop>(
 /// Whether two routers in two threads read on.
 fn two_read_on<D: DeskName + Send + Sync, W: Asks + Drop + Send, R: Threads + Wait + Sync>(
     rt: &R,
-    desk: &Desk<D, W, &R>,
+    desk: &Desk<D, W>,
 ) -> bool {
     join(rt, || reads_on(rt, desk), || reads_on(rt, desk)) == (true, true)
 }
@@ -127,7 +120,7 @@ fn two_read_on<D: DeskName + Send + Sync, W: Asks + Drop + Send, R: Threads + Wa
 pub fn all_go_on<D: DeskName + Send + Sync, W: Asks + Drop + Send, R: Threads + Wait + Sync>(
     rt: &R,
     alloc: Global,
-    desk: &Desk<D, W, &R>,
+    desk: &Desk<D, W>,
 ) -> Played {
     let (four_read, is_told) = join(
         rt,

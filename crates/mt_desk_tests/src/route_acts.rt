@@ -42,12 +42,15 @@ impl<D: DeskName> Routing<D> {
 
     /// Whether there is a router, which learns what was told last.
     fn learns(&mut self) -> bool {
-        match (self.routers.last_mut(), &self.told) {
-            (Some(router), Some(told)) => {
-                router.learn(told.again());
+        let (Some(router), Some(told)) = (self.routers.last_mut(), &self.told) else {
+            return false;
+        };
+        match told.again() {
+            Ok(told) => {
+                router.learn(told);
                 true
             }
-            _ => false,
+            Err(_) => false,
         }
     }
 }
@@ -63,9 +66,9 @@ pub fn leads<D: DeskName>(router: &mut Router<D>, name: &str, target: &str, fron
 }
 
 /// Whether an act is so.
-pub fn is_routed<D: DeskName, W: Asks + Drop, R: Wait + Drop>(
+pub fn is_routed<D: DeskName, W: Asks + Drop>(
     rt: &impl Wait,
-    desk: &Desk<D, W, R>,
+    desk: &Desk<D, W>,
     routing: &mut Routing<D>,
     act: RouteAct,
 ) -> bool {

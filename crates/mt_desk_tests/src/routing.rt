@@ -13,9 +13,9 @@ use std::sync::Wait;
 
 /// Has routers told the routes as they now stand, and looks a name up by one that learnt it. Answers where the name leads, by the last
 /// publication that was told or a later one, with its front; or nothing, where the desk or the router refused.
-pub fn route_told<D: DeskName, W: Asks + Drop, R: Wait + Drop>(
+pub fn route_told<D: DeskName, W: Asks + Drop, R: Wait>(
     rt: &R,
-    desk: &Desk<D, W, R>,
+    desk: &Desk<D, W>,
     router: &mut Router<D>,
     key: &RuleKey,
     tablet_type: TabletType,

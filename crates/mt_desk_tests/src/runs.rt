@@ -1,4 +1,4 @@
-//! The moves where each event is run as a list of one, by `run_events`.
+//! Lists of events, and the moves where each event is run as a list of one, by `run_events`.
 
 use crate::acts::Played;
 use crate::life::{LIFE, Move};
@@ -7,8 +7,8 @@ use crate::opened::two_watchers;
 use crate::venue::{Seen, Venue};
 use crate::worked::{BOTH, CANCELLED, COMPLETED, REVERSED, STEPPED};
 use mt_desk::Answer;
-use mt_event::Event;
-use mt_names::{RuleKey, RuleTarget, TabletType};
+use mt_event::{Event, Reason, Refusal, Reply};
+use mt_names::{KeyspaceName, RuleKey, RuleTarget, ShardList, TabletType};
 use mt_site::{Site, run_events};
 use mt_watch::Watchers;
 use std::alloc::Global;
@@ -73,6 +73,33 @@ fn moved<R: Wait>(rt: &R, alloc: Global, of: Move) -> Played {
             Played::up_to(wrong)
         }
         None => Played::NotMade,
+    }
+}
+
+/// A keyspace without a table.
+fn keyspace() -> Option<Event> {
+    Some(Event::AddKeyspace {
+        keyspace: KeyspaceName::parse("a").ok()?,
+        shards: ShardList::unsharded(),
+    })
+}
+
+/// The answers to a keyspace that is added twice, in one list.
+fn added_twice(alloc: Global) -> Option<Vec<Answer>> {
+    let mut site = Site::open(alloc, two_watchers(alloc)?);
+    let answers = run_events(alloc, &mut site, &[keyspace()?, keyspace()?]).ok();
+    drop(site);
+    answers
+}
+
+#[test]
+fn a_list_is_applied_one_event_after_the_other(rt: HostRuntime) {
+    match added_twice(rt.alloc()) {
+        Some(answers) => assert_eq!(rt;
+            answers.as_slice(),
+            [Ok(Reply::Done), Err(Refusal::Other(Reason::Exists))].as_slice()
+        ),
+        None => assert!(rt; false),
     }
 }
 

@@ -39,10 +39,10 @@ pub struct Load {
 }
 
 /// Whether a rule is set, to one of two targets by its turn.
-fn is_set<D: DeskName, W: Asks + Drop, R: Wait + Drop>(
+fn is_set<D: DeskName, W: Asks + Drop>(
     rt: &impl Wait,
     alloc: Global,
-    desk: &Desk<D, W, R>,
+    desk: &Desk<D, W>,
     pass: &mut Pass<D>,
     rule: u64,
     turn: u64,
@@ -55,10 +55,10 @@ fn is_set<D: DeskName, W: Asks + Drop, R: Wait + Drop>(
 }
 
 /// Whether each turn goes well: the first ones set the rules, and then one is edited and the routes are told, each so often.
-fn are_told<D: DeskName, W: Asks + Drop, R: Wait + Drop>(
+fn are_told<D: DeskName, W: Asks + Drop>(
     rt: &impl Wait,
     alloc: Global,
-    desk: &Desk<D, W, R>,
+    desk: &Desk<D, W>,
     pass: &mut Pass<D>,
     load: Load,
 ) -> bool {
@@ -77,10 +77,10 @@ fn are_told<D: DeskName, W: Asks + Drop, R: Wait + Drop>(
 }
 
 /// The pass of a thread's client, if all of its calls are taken, and of the first thread what it edits and tells.
-fn asked<D: DeskName, W: Asks + Drop, R: Wait + Drop>(
+fn asked<D: DeskName, W: Asks + Drop>(
     rt: &impl Wait,
     alloc: Global,
-    desk: &Desk<D, W, R>,
+    desk: &Desk<D, W>,
     thread: usize,
     load: Load,
 ) -> Option<Pass<D>> {
@@ -97,7 +97,7 @@ fn asked<D: DeskName, W: Asks + Drop, R: Wait + Drop>(
 fn all_asked<D: DeskName + Send + Sync, W: Asks + Drop + Send, R: Threads + Wait + Sync>(
     rt: &R,
     alloc: Global,
-    desk: &Desk<D, W, &R>,
+    desk: &Desk<D, W>,
     load: Load,
 ) -> Option<Vec<Pass<D>>> {
     let count = load.threads as usize;
@@ -113,7 +113,7 @@ fn all_asked<D: DeskName + Send + Sync, W: Asks + Drop + Send, R: Threads + Wait
 pub fn is_borne<D: DeskName + Send + Sync, W: Asks + Drop + Send, R: Threads + Wait + Sync>(
     rt: &R,
     alloc: Global,
-    desk: &Desk<D, W, &R>,
+    desk: &Desk<D, W>,
     load: Load,
 ) -> bool {
     match all_asked(rt, alloc, desk, load) {

@@ -39,9 +39,9 @@ fn call_of(at: &RuleTarget, client: u16, number: u64) -> Option<Event> {
 }
 
 /// Whether a client's calls are taken, so many.
-fn are_taken<D: DeskName, W: Asks + Drop, R: Wait + Drop>(
+fn are_taken<D: DeskName, W: Asks + Drop>(
     rt: &impl Wait,
-    desk: &Desk<D, W, R>,
+    desk: &Desk<D, W>,
     pass: &mut Pass<D>,
     count: u64,
 ) -> bool {
@@ -60,9 +60,9 @@ fn are_taken<D: DeskName, W: Asks + Drop, R: Wait + Drop>(
 }
 
 /// A new client inserts rows of its own and reads each, by so many calls. Answers its pass, and whether all were taken, if it got one.
-pub fn calls<D: DeskName, W: Asks + Drop, R: Wait + Drop>(
+pub fn calls<D: DeskName, W: Asks + Drop>(
     rt: &impl Wait,
-    desk: &Desk<D, W, R>,
+    desk: &Desk<D, W>,
     client: u16,
     count: u64,
 ) -> Option<(Pass<D>, bool)> {
@@ -74,9 +74,9 @@ pub fn calls<D: DeskName, W: Asks + Drop, R: Wait + Drop>(
 }
 
 /// A third client reads the last row of each of two. Answers its pass, and whether both are there, if it got one.
-fn reads<D: DeskName, W: Asks + Drop, R: Wait + Drop>(
+fn reads<D: DeskName, W: Asks + Drop>(
     rt: &impl Wait,
-    desk: &Desk<D, W, R>,
+    desk: &Desk<D, W>,
 ) -> Option<(Pass<D>, bool)> {
     let Ok(mut pass) = desk.pass(rt, 3) else {
         return None;
@@ -98,10 +98,10 @@ fn reads<D: DeskName, W: Asks + Drop, R: Wait + Drop>(
 }
 
 /// Whether three passes are gathered with these calls.
-fn are_gathered<D: DeskName, W: Asks + Drop, R: Wait + Drop>(
+fn are_gathered<D: DeskName, W: Asks + Drop>(
     rt: &impl Wait,
     alloc: Global,
-    desk: &Desk<D, W, R>,
+    desk: &Desk<D, W>,
     passes: [Pass<D>; 3],
     want: &[(u16, u64)],
 ) -> bool {
@@ -115,7 +115,7 @@ fn are_gathered<D: DeskName, W: Asks + Drop, R: Wait + Drop>(
 pub fn two_ask<D: DeskName + Send + Sync, W: Asks + Drop + Send, R: Threads + Wait + Sync>(
     rt: &R,
     alloc: Global,
-    desk: &Desk<D, W, &R>,
+    desk: &Desk<D, W>,
     count: u64,
 ) -> Played {
     let (one, two) = join(

@@ -27,9 +27,9 @@ static RULES: [(&str, &str); 4] = [
 ];
 
 /// Whether a line is done, at once or at a second try.
-pub fn is_done<D: DeskName, W: Asks + Drop, R: Wait + Drop>(
+pub fn is_done<D: DeskName, W: Asks + Drop>(
     rt: &impl Wait,
-    desk: &Desk<D, W, R>,
+    desk: &Desk<D, W>,
     pass: &mut Pass<D>,
     line: &str,
 ) -> bool {
@@ -41,9 +41,9 @@ pub fn is_done<D: DeskName, W: Asks + Drop, R: Wait + Drop>(
 }
 
 /// What is told at once, or at a second try after a refusal out of memory, behind which the router answers by the same front.
-fn told_of<D: DeskName, W: Asks + Drop, R: Wait + Drop>(
+fn told_of<D: DeskName, W: Asks + Drop>(
     rt: &impl Wait,
-    desk: &Desk<D, W, R>,
+    desk: &Desk<D, W>,
     router: &mut Router<D>,
     last: u64,
 ) -> Option<Told<D>> {
@@ -61,9 +61,9 @@ fn told_of<D: DeskName, W: Asks + Drop, R: Wait + Drop>(
 }
 
 /// Whether a rule is told, with the front of this number of lines behind that of the last.
-fn is_told<D: DeskName, W: Asks + Drop, R: Wait + Drop>(
+fn is_told<D: DeskName, W: Asks + Drop>(
     rt: &impl Wait,
-    desk: &Desk<D, W, R>,
+    desk: &Desk<D, W>,
     pass: &mut Pass<D>,
     router: &mut Router<D>,
     rule: (&str, &str),
@@ -84,9 +84,9 @@ fn is_told<D: DeskName, W: Asks + Drop, R: Wait + Drop>(
 }
 
 /// The index of the first rule that isn't told.
-fn first_untold<D: DeskName, W: Asks + Drop, R: Wait + Drop>(
+fn first_untold<D: DeskName, W: Asks + Drop>(
     rt: &impl Wait,
-    desk: &Desk<D, W, R>,
+    desk: &Desk<D, W>,
     pass: &mut Pass<D>,
     router: &mut Router<D>,
 ) -> Option<usize> {
@@ -99,9 +99,9 @@ fn first_untold<D: DeskName, W: Asks + Drop, R: Wait + Drop>(
 }
 
 /// The index of the first rule that isn't told to a new router.
-fn first_untold_anew<D: DeskName, W: Asks + Drop, R: Wait + Drop>(
+fn first_untold_anew<D: DeskName, W: Asks + Drop>(
     rt: &impl Wait,
-    desk: &Desk<D, W, R>,
+    desk: &Desk<D, W>,
     pass: &mut Pass<D>,
 ) -> Played {
     let Ok(mut router) = desk.router(rt) else {
@@ -113,10 +113,7 @@ fn first_untold_anew<D: DeskName, W: Asks + Drop, R: Wait + Drop>(
 }
 
 /// How each rule is told, up to the first that isn't.
-pub fn is_told_all<D: DeskName, W: Asks + Drop, R: Wait + Drop>(
-    rt: &impl Wait,
-    desk: &Desk<D, W, R>,
-) -> Played {
+pub fn is_told_all<D: DeskName, W: Asks + Drop>(rt: &impl Wait, desk: &Desk<D, W>) -> Played {
     let Some(mut pass) = pass_of(rt, desk, 1) else {
         return Played::NotMade;
     };

@@ -1,10 +1,8 @@
 pub mod Lists
 pub mod MapLemmas
-pub mod PutLemmas
-pub mod NumberLemmas
+pub mod HolderLemmas
 pub mod SaidLemmas
 pub mod LookUpLemmas
-pub mod ViewLemmas
 pub mod TopologyLemmas
 pub mod RouteLemmas
 pub mod DifferenceLemmas

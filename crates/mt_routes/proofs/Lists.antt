@@ -1,10 +1,11 @@
 -- Beginnings of one list, and fronts that never fall.
-use Rattle.std.proofs.Common.{◌≡◌, ℕ, ◌≤◌, Bool, true, false, nat_lt, List, [], ◌∷◌, ◌++◌, length, Option, None, Some, refl, ap, sym, subst, ◌∙◌, arith, append_assoc}
+use Rattle.std.proofs.Common.{◌≡◌, ℕ, ◌≤◌, Bool, true, false, nat_lt, List, [], ◌∷◌, ◌++◌, length, Option, None, Some, is_some, refl, ap, sym, subst, ◌∙◌, arith, append_assoc}
 use Rattle.std.proofs.lemmas.Bool.Decides.{nat_tests}
 use Rattle.std.specs.List.{last_or}
 use mathlib.Core.List.{IsPrefix}
 use Rattle.mt_routes.specs.declared.publication.Publication.{Publication}
-use Rattle.mt_routes.specs.Publications.{front_of, rises_from, last_front, Rises}
+use Rattle.mt_routes.specs.Places.{Agrees, AreRoutes, PlacesState, Shows}
+use Rattle.mt_routes.specs.Publications.{entries_of, front_of, last_routes, rises_from, last_front, Rises}
 
 -- each list begins with itself
 pub prefix_self : {A : Type 0} (xs : List A) → IsPrefix xs xs
@@ -76,3 +77,13 @@ fronts-below o (x ∷ xs) (y ∷ ys) p rises =
 -- a longer list's last front is no less
 pub fronts_never_fall : (shorter list : List Publication) → IsPrefix shorter list → Rises list → last_front shorter ≤ last_front list
 fronts_never_fall shorter list p rises = fronts-below None shorter list p rises
+
+-- a list's last publication, behind one more, is that one; so places that say what its routes say show the list
+pub shows-added : (before : List Publication) (e : Publication) (list : List Publication) (places : PlacesState) → list ≡ before ++ e ∷ [] → AreRoutes e.entries → Agrees places e.entries → Shows list places
+shows-added before e list places is are agrees =
+    let last : last_routes list ≡ e.entries = ap last_routes is ∙ ap entries_of (last-added None before e) in
+    record {
+      any = ap (λ l. is_some (last_or None l)) is ∙ ap is_some (last-added None before e);
+      routes = subst AreRoutes (sym last) are;
+      agrees = subst (Agrees places) (sym last) agrees;
+    }

@@ -1,12 +1,38 @@
--- Keys that are apart, and what is kept of entries.
-use Rattle.std.proofs.Common.{◌≡◌, ◌||◌, ℕ, suc, ◌≤◌, nat_lt, Bool, true, false, cond, filter, List, [], ◌∷◌, ◌++◌, length, None, refl, ap, ◌∙◌, arith}
+-- Keys that are apart, what a key that is set leaves, and what is kept of entries.
+use Rattle.std.proofs.Common.{◌≡◌, ◌≢◌, ◌||◌, Bool, true, false, cond, filter, List, [], ◌∷◌, ◌++◌, Option, None, Some, refl, ap, sym, ◌∙◌}
 use Rattle.std.proofs.lemmas.Bool.{true≢false}
-use Rattle.std.proofs.lemmas.Map.Entries.{lookup-filter-values, option_filter}
-use Rattle.std.proofs.lemmas.Map.Made.{IsDistinct-keys_filter}
+use Rattle.std.specs.Bool.{Decides}
 use Rattle.std.specs.Cmp.{IsEquivalence}
 use Rattle.std.specs.List.{AllByRecursion, IsDistinct, list_any}
 use Rattle.std.specs.Map.{keys_of, lookup}
-use Rattle.mt_routes.specs.Places.{with_room}
+use Rattle.indexmap.specs.IndexMap.{insert_entry}
+use Rattle.mt_names.proofs.EntryLemmas.{apart}
+
+-- ---- a key that is set
+
+module _ {K V : Type 0} (same : K → K → Bool) (decides : (a b : K) → Decides (same a b) (a ≡ b)) where
+  -- it has what was set
+  pub set-here : (es : List (K × V)) (k : K) (v : V) → lookup (same k) (insert_entry same es k v) ≡ Some v
+  set-here [] k v = let itself : same k k ≡ true = (decides k k).1 refl in rw itself refl
+  set-here (e ∷ es) k v = by (same k e.0) refl (set-here es k v)
+    where
+      by : (b : Bool) → same k e.0 ≡ b → lookup (same k) (insert_entry same es k v) ≡ Some v → lookup (same k) (insert_entry same (e ∷ es) k v) ≡ Some v
+      by true is again = rw is (rw is refl)
+      by false is again = rw is (rw is again)
+
+  -- another key has what it had
+  pub set-elsewhere : (es : List (K × V)) (k : K) (v : V) (q : K) → k ≢ q → lookup (same q) (insert_entry same es k v) ≡ lookup (same q) es
+  set-elsewhere [] k v q other = let differs : same q k ≡ false = apart same decides q k (λ h. other (sym h)) in rw differs refl
+  set-elsewhere (e ∷ es) k v q other = by (same k e.0) refl (set-elsewhere es k v q other)
+    where
+      by : (b : Bool) → same k e.0 ≡ b → lookup (same q) (insert_entry same es k v) ≡ lookup (same q) es → lookup (same q) (insert_entry same (e ∷ es) k v) ≡ lookup (same q) (e ∷ es)
+      by true is again =
+          let k_is : k ≡ e.0 = (decides k e.0).0 is in
+          let differs : same q e.0 ≡ false = apart same decides q e.0 (λ h. other (k_is ∙ sym h)) in
+          rw is (rw differs refl)
+      by false is again = rw is (ap (cond (same q e.0) (Some e.1)) again)
+
+-- ---- keys that are apart
 
 module _ {K V : Type 0} (same : K → K → Bool) (laws : IsEquivalence same) where
   apart_in : (es rest : List (K × V)) (x k : K) (v : V) → AllByRecursion (λ y. same x y ≡ false) (keys_of (es ++ (k, v) ∷ rest)) → same x k ≡ false
@@ -20,21 +46,6 @@ module _ {K V : Type 0} (same : K → K → Bool) (laws : IsEquivalence same) wh
   new_from_distinct (e ∷ es) rest k v distinct =
       let apart : same k e.0 ≡ false = laws.symm k e.0 ∙ apart_in es rest e.0 k v distinct.0 in
       rw apart (new_from_distinct es rest k v distinct.1)
-
-  -- where room is made, a key that isn't there isn't there afterwards, and no key has two places
-  pub room-missing : (stands : V → Bool) (places : ℕ) (es : List (K × V)) (k : K) → IsDistinct same (keys_of es) → lookup (same k) es ≡ None → lookup (same k) (with_room stands places es) ≡ None
-  room-missing stands places es k distinct is_none = by (nat_lt (length es) places) refl
-    where
-      by : (b : Bool) → nat_lt (length es) places ≡ b → lookup (same k) (with_room stands places es) ≡ None
-      by true is = rw is is_none
-      by false is = rw is (lookup-filter-values laws stands k es distinct ∙ ap (option_filter stands) is_none)
-
-  pub room-distinct : (stands : V → Bool) (places : ℕ) (es : List (K × V)) → IsDistinct same (keys_of es) → IsDistinct same (keys_of (with_room stands places es))
-  room-distinct stands places es distinct = by (nat_lt (length es) places) refl
-    where
-      by : (b : Bool) → nat_lt (length es) places ≡ b → IsDistinct same (keys_of (with_room stands places es))
-      by true is = rw is distinct
-      by false is = rw is (IsDistinct-keys_filter same (λ e. stands e.1) es distinct)
 
 module _ {K : Type 0} (same : K → K → Bool) (laws : IsEquivalence same) where
   apart-push : (xs : List K) (x k : K) → AllByRecursion (λ y. same x y ≡ false) xs → same x k ≡ false → AllByRecursion (λ y. same x y ≡ false) (xs ++ k ∷ [])
@@ -69,12 +80,3 @@ module _ {K : Type 0} (same : K → K → Bool) (laws : IsEquivalence same) wher
       by : (b : Bool) → IsDistinct same (filter p xs) → IsDistinct same (cond b (x ∷ filter p xs) (filter p xs))
       by true again = (apart-filter p xs x distinct.0, again)
       by false again = again
-
--- no more is kept than there is
-pub filter-length : {X : Type 0} (p : X → Bool) (xs : List X) → length (filter p xs) ≤ length xs
-filter-length p [] = omega arith
-filter-length p (x ∷ xs) = by (p x) (filter-length p xs)
-  where
-    by : (b : Bool) → length (filter p xs) ≤ length xs → length (cond b (x ∷ filter p xs) (filter p xs)) ≤ suc (length xs)
-    by true again = omega (arith, again)
-    by false again = omega (arith, again)

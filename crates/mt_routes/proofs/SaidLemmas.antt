@@ -1,175 +1,61 @@
--- What places say after an entry is written, and after several.
-use Rattle.std.proofs.Common.{◌≡◌, ◌≢◌, ◌⊎◌, inl, inr, ℕ, zero, suc, ◌+◌, ◌<◌, ◌≤◌, slice_index_or, Bool, true, false, nat_eq, nat_lt, not, List, [], ◌∷◌, ◌++◌, All, Contains, length, get_or, take, drop, fold, Option, None, Some, is_some, refl, ap, sym, subst, ◌∙◌, arith, eqb-true}
-use Rattle.std.proofs.lemmas.Bool.{true≢false}
-use Rattle.std.proofs.lemmas.List.Elements.{All-head, All-nil, All-tail, All-weaker, Contains-append_cases}
-use Rattle.std.proofs.lemmas.List.{drop_all, drop_more, take_more}
-use Rattle.std.proofs.lemmas.List.Sums.{fold-append}
-use Rattle.std.proofs.lemmas.List.Folds.{list_any_none}
-use Rattle.std.specs.List.{IsDistinct, list_any}
-use Rattle.std.specs.Map.{keys_of}
-use Rattle.std.specs.Option.{option_map_or}
+-- What places say after an entry is written, after several, and once what doesn't stand is left out.
+use Rattle.std.proofs.Common.{◌≡◌, ◌≢◌, ◌⊎◌, inl, inr, ℕ, zero, suc, ◌<◌, slice_index_or, List, [], ◌∷◌, All, Contains, fold, Option, None, Some, Bool, is_some, unwrap_or, refl, ap, sym, subst, ◌∙◌, arith}
+use Rattle.std.proofs.lemmas.List.Elements.{All-head, All-tail, Contains-append_cases}
+use Rattle.std.proofs.lemmas.Map.Entries.{lookup-filter-values, option_filter}
+use Rattle.std.specs.Cmp.{decided}
+use Rattle.std.specs.List.{list_any}
+use Rattle.std.specs.Map.{lookup}
 use Rattle.mt_names.specs.declared.keys.RuleTarget.{RuleTarget}
 use Rattle.mt_names.specs.Names.{same_text}
 use Rattle.mt_names.specs.Same.{same_key}
-use Rattle.mt_names.proofs.EntryLemmas.{apart, none_from, same_or_other}
+use Rattle.mt_names.proofs.EntryLemmas.{same_or_other}
 use Rattle.mt_names.proofs.SameLemmas.{same_key_decides, same_text_decides}
 use Rattle.mt_model.specs.declared.entries.Entry.{Entry}
 use Rattle.mt_model.specs.declared.entries.Entry.TheVariants as entry
 use Rattle.mt_model.specs.declared.entries.EntryKey.{EntryKey}
 use Rattle.mt_model.specs.declared.entries.EntryKey.TheVariants as about
-use Rattle.mt_model.specs.Limits.{most_keyspaces}
 use Rattle.mt_model.specs.Topology.{key_of}
 use Rattle.mt_routes.specs.LookUp.{said_by}
-use Rattle.mt_routes.specs.Pending.{WritesAll}
-use Rattle.mt_routes.specs.Places.{Agrees, AreNumbered, AreNumbers, ArePlaces, PlacesState, are_any, is_held, no_places, number_of, numbers_of, rule_places, said_in, table_places, with_entry, with_holder, with_keyspace, with_number}
-use Rattle.mt_routes.proofs.NumberLemmas.{below, kept, new_name, none_any, numbered-more, numbered-put, numbers_at, one_name, other_name, other_number}
-use Rattle.mt_routes.proofs.PutLemmas.{put-distinct, put-elsewhere, put-here}
-
--- ---- keyspaces with one more
-
--- the number of an old name stays
-old_number : (ks : List (List ℕ)) (k q : List ℕ) (n : ℕ) → number_of ks q ≡ Some n → number_of (with_keyspace ks k) q ≡ Some n
-old_number ks k q n at = by (list_any (same_text k) ks) refl (not (nat_lt (length ks) most_keyspaces)) refl
-  where
-    by : (b : Bool) → list_any (same_text k) ks ≡ b → (c : Bool) → not (nat_lt (length ks) most_keyspaces) ≡ c → number_of (with_keyspace ks k) q ≡ Some n
-    by true has c full = rw has at
-    by false has true full = rw (has, full) at
-    by false has false full = rw (has, full) (kept ks k q n at)
-
--- another name has the number that it had, or none
-others_number : (ks : List (List ℕ)) (k q : List ℕ) → q ≢ k → number_of (with_keyspace ks k) q ≡ number_of ks q
-others_number ks k q other = by (list_any (same_text k) ks) refl (not (nat_lt (length ks) most_keyspaces)) refl
-  where
-    by : (b : Bool) → list_any (same_text k) ks ≡ b → (c : Bool) → not (nat_lt (length ks) most_keyspaces) ≡ c → number_of (with_keyspace ks k) q ≡ number_of ks q
-    by true has c full = rw has refl
-    by false has true full = rw (has, full) refl
-    by false has false full = rw (has, full) (other_name ks k q (apart same_text same_text_decides q k other))
-
--- a new name has the next one
-new_number : (ks : List (List ℕ)) (k : List ℕ) (n : ℕ) → number_of ks k ≡ None → number_of (with_keyspace ks k) k ≡ Some n → n ≡ length ks
-new_number ks k n none at = by (list_any (same_text k) ks) refl (not (nat_lt (length ks) most_keyspaces)) refl at
-  where
-    by : (b : Bool) → list_any (same_text k) ks ≡ b → (c : Bool) → not (nat_lt (length ks) most_keyspaces) ≡ c → number_of (with_keyspace ks k) k ≡ Some n → n ≡ length ks
-    by true has c full is = absurd (cc (sym none ∙ rw has at is))
-    by false has true full is = absurd (cc (sym none ∙ rw (has, full) at is))
-    by false has false full is = cc (sym (rw (has, full) at is) ∙ new_name ks k none)
-
--- ---- tables with one more, or one less
-
-abbrev pub after : List (List ℕ × List ℕ) → List ℕ → Bool → Option ℕ → List (List ℕ × List ℕ)
-after tables t mark o = option_map_or (with_holder tables t mark) o tables
-
-other_table : (tables : List (List ℕ × List ℕ)) (t w : List ℕ) (mark : Bool) (o : Option ℕ) → IsDistinct same_text (keys_of tables) → t ≢ w → numbers_of (after tables t mark o) w ≡ numbers_of tables w
-other_table tables t w mark None distinct other = refl
-other_table tables t w mark (Some n) distinct other =
-    put-elsewhere same_text same_text_decides are_any [] none_any table_places tables t (with_number (numbers_of tables t) n mark) w distinct other
-
-this_table : (tables : List (List ℕ × List ℕ)) (t : List ℕ) (mark : Bool) (n m : ℕ) → IsDistinct same_text (keys_of tables) → n ≢ m
-    → list_any (nat_eq m) (numbers_of (with_holder tables t mark n) t) ≡ list_any (nat_eq m) (numbers_of tables t)
-this_table tables t mark n m distinct other =
-    elim (put-here same_text same_text_decides are_any [] none_any table_places tables t (with_number (numbers_of tables t) n mark) distinct) [
-      | inl is ↦ ap (list_any (nat_eq m)) is ∙ other_number (numbers_of tables t) n m mark other
-      | inr is ↦ ap (list_any (nat_eq m)) is
-    ]
-
-not_equal : (l m : ℕ) → m < l → nat_eq l m ≡ false
-not_equal l m less = by (nat_eq l m) refl
-  where
-    by : (b : Bool) → nat_eq l m ≡ b → nat_eq l m ≡ false
-    by true at = absurd (omega (arith, less, eqb-true l m at))
-    by false at = at
-
--- no number is as large as the number of names
-none_larger : (ks : List (List ℕ)) (numbers : List ℕ) → All (λ m. m < length ks) numbers → list_any (nat_eq (length ks)) numbers ≡ false
-none_larger ks numbers less = list_any_none (nat_eq (length ks)) numbers (All-weaker (λ m. m < length ks) (λ m. nat_eq (length ks) m ≡ false) (λ m h. not_equal (length ks) m h) numbers less)
+use Rattle.mt_routes.specs.Places.{Agrees, ArePlaces, PlacesState, are_any, holders_of, is_held, said_in, standing, with_entry, with_holder}
+use Rattle.mt_routes.proofs.HolderLemmas.{other-holder, this-holder}
+use Rattle.mt_routes.proofs.MapLemmas.{set-elsewhere, set-here}
 
 -- ---- an entry written
 
-held-elsewhere : (p : PlacesState) (k t : List ℕ) (mark : Bool) (q w : List ℕ) → ArePlaces p → (k ≡ q → t ≡ w → ⊥) → is_held (with_entry p (entry.Present k t mark)) q w ≡ is_held p q w
-held-elsewhere p k t mark q w are other =
-    elim (same_or_other same_text same_text_decides q k) [
-      | inl same ↦ own (number_of ks q) refl (number_of ks' q) refl same
-      | inr apart ↦ others (number_of ks q) refl apart
+-- a table has the keyspaces that were set, and another one those that it had
+holders-here : (p : PlacesState) (k t : List ℕ) (mark : Bool) → holders_of (with_entry p (entry.Present k t mark)) t ≡ with_holder (holders_of p t) k mark
+holders-here p k t mark = ap (λ o. unwrap_or o []) (set-here same_text same_text_decides p.tables t (with_holder (holders_of p t) k mark))
+
+holders-elsewhere : (p : PlacesState) (k t : List ℕ) (mark : Bool) (w : List ℕ) → t ≢ w → holders_of (with_entry p (entry.Present k t mark)) w ≡ holders_of p w
+holders-elsewhere p k t mark w other = ap (λ o. unwrap_or o []) (set-elsewhere same_text same_text_decides p.tables t (with_holder (holders_of p t) k mark) w other)
+
+held-elsewhere : (p : PlacesState) (k t : List ℕ) (mark : Bool) (q w : List ℕ) → (k ≡ q → t ≡ w → ⊥) → is_held (with_entry p (entry.Present k t mark)) q w ≡ is_held p q w
+held-elsewhere p k t mark q w other =
+    elim (same_or_other same_text same_text_decides t w) [
+      | inl same ↦
+          subst (λ x. is_held (with_entry p (entry.Present k t mark)) q x ≡ is_held p q x) same
+          (ap (list_any (same_text q)) (holders-here p k t mark) ∙ other-holder (holders_of p t) k mark q (λ h. other h same))
+      | inr apart ↦ ap (list_any (same_text q)) (holders-elsewhere p k t mark w apart)
     ]
-  where
-    ks : List (List ℕ)
-    ks = p.keyspaces
 
-    ks' : List (List ℕ)
-    ks' = with_keyspace p.keyspaces k
+-- it is what is then said at its key, unless it is a denial
+said-here : (p : PlacesState) (e : Entry) (routes : List Entry) → said_by routes (key_of e) ≡ e → said_in (with_entry p e) (key_of e) ≡ e
+said-here p (entry.Rule k target) routes says = ap (λ o. entry.Rule k (unwrap_or o None)) (set-here same_key same_key_decides p.rules k target)
+said-here p (entry.Denied k t mark) routes says = says
+said-here p (entry.Present k t mark) routes says =
+    ap (entry.Present k t) (ap (list_any (same_text k)) (holders-here p k t mark) ∙ this-holder (holders_of p t) k mark)
 
-    tables : List (List ℕ × List ℕ)
-    tables = p.tables
-
-    tables' : List (List ℕ × List ℕ)
-    tables' = after p.tables t mark (number_of (with_keyspace p.keyspaces k) k)
-
-    held : List (List ℕ × List ℕ) → ℕ → Bool
-    held l n = list_any (nat_eq n) (numbers_of l w)
-
-    own : (o : Option ℕ) → number_of ks q ≡ o → (o' : Option ℕ) → number_of ks' q ≡ o' → q ≡ k → option_map_or (held tables') (number_of ks' q) false ≡ option_map_or (held tables) (number_of ks q) false
-    own (Some n) at o' at' same =
-        let there : number_of ks' q ≡ Some n = old_number ks k q n at in
-        let table : t ≢ w = λ h. other (sym same) h in
-        rw (at, there) (ap (list_any (nat_eq n)) (other_table tables t w mark (number_of ks' k) are.tables table))
-    own None at None at' same = rw (at, at') refl
-    own None at (Some n) at' same =
-        let table : t ≢ w = λ h. other (sym same) h in
-        let last : n ≡ length ks = new_number ks k n (subst (λ x. number_of ks x ≡ None) same at) (subst (λ x. number_of ks' x ≡ Some n) same at') in
-        rw (at, at') (ap (list_any (nat_eq n)) (other_table tables t w mark (number_of ks' k) are.tables table) ∙ (ap (held tables) last ∙ none_larger ks (numbers_of tables w) (numbers_at ks tables w are.numbered).1))
-
-    others : (o : Option ℕ) → number_of ks q ≡ o → q ≢ k → option_map_or (held tables') (number_of ks' q) false ≡ option_map_or (held tables) (number_of ks q) false
-    others None at apart =
-        let there : number_of ks' q ≡ None = others_number ks k q apart ∙ at in
-        rw (at, there) refl
-    others (Some m) at apart =
-        let there : number_of ks' q ≡ Some m = others_number ks k q apart ∙ at in
-        rw (at, there) (
-        elim (same_or_other same_text same_text_decides t w) [
-          | inl table ↦ here (number_of ks' k) refl table there
-          | inr table ↦ ap (list_any (nat_eq m)) (other_table tables t w mark (number_of ks' k) are.tables table)
-        ]
-        )
-      where
-        here : (o : Option ℕ) → number_of ks' k ≡ o → t ≡ w → number_of ks' q ≡ Some m → held (after tables t mark o) m ≡ held tables m
-        here None is table there = refl
-        here (Some n) is table there =
-            let number : n ≢ m = λ h. apart (one_name ks' q k m there (subst (λ x. number_of ks' k ≡ Some x) h is)) in
-            subst (λ x. list_any (nat_eq m) (numbers_of (with_holder tables t mark n) x) ≡ list_any (nat_eq m) (numbers_of tables x)) table (this_table tables t mark n m are.tables number)
-
--- an entry is written, and nothing else is said of another key
-said-elsewhere : (p : PlacesState) (e : Entry) (key : EntryKey) → ArePlaces p → key ≢ key_of e → said_in (with_entry p e) key ≡ said_in p key
-said-elsewhere p (entry.Rule k target) (about.Rule q) are other =
-    ap (entry.Rule q) (put-elsewhere same_key same_key_decides is_some None none_from rule_places p.rules k target q are.rules (λ h. other (ap about.Rule (sym h))))
-said-elsewhere p (entry.Rule k target) (about.Denied q w) are other = refl
-said-elsewhere p (entry.Rule k target) (about.Present q w) are other = refl
-said-elsewhere p (entry.Denied k t mark) key are other = refl
-said-elsewhere p (entry.Present k t mark) (about.Rule q) are other = refl
-said-elsewhere p (entry.Present k t mark) (about.Denied q w) are other = refl
-said-elsewhere p (entry.Present k t mark) (about.Present q w) are other =
-    ap (entry.Present q w) (held-elsewhere p k t mark q w are (λ h i. other (ap (λ x. about.Present x w) (sym h) ∙ ap (about.Present k) (sym i))))
-
--- what is true of all places stays true
-pub are-places : (p : PlacesState) (e : Entry) → ArePlaces p → ArePlaces (with_entry p e)
-are-places p (entry.Rule k target) are =
-    record { rules = put-distinct same_key same_key_decides is_some None none_from rule_places p.rules k target are.rules; tables = are.tables; numbered = are.numbered }
-are-places p (entry.Denied k t mark) are = are
-are-places p (entry.Present k t mark) are = by (number_of ks k) refl
-  where
-    ks : List (List ℕ)
-    ks = with_keyspace p.keyspaces k
-
-    more : AreNumbered ks p.tables
-    more = numbered-more p.keyspaces k p.tables are.numbered
-
-    by : (o : Option ℕ) → number_of ks k ≡ o → ArePlaces (record p { keyspaces = ks; tables = after p.tables t mark (number_of ks k) })
-    by None at = rw at (record { rules = are.rules; tables = are.tables; numbered = more })
-    by (Some n) at =
-        rw at (record {
-          rules = are.rules;
-          tables = put-distinct same_text same_text_decides are_any [] none_any table_places p.tables t (with_number (numbers_of p.tables t) n mark) are.tables;
-          numbered = numbered-put ks p.tables t mark n are.tables more (below ks k n at);
-        })
+-- and nothing else is said of another key
+said-elsewhere : (p : PlacesState) (e : Entry) (key : EntryKey) → key ≢ key_of e → said_in (with_entry p e) key ≡ said_in p key
+said-elsewhere p (entry.Rule k target) (about.Rule q) other =
+    ap (λ o. entry.Rule q (unwrap_or o None)) (set-elsewhere same_key same_key_decides p.rules k target q (λ h. other (ap about.Rule (sym h))))
+said-elsewhere p (entry.Rule k target) (about.Denied q w) other = refl
+said-elsewhere p (entry.Rule k target) (about.Present q w) other = refl
+said-elsewhere p (entry.Denied k t mark) key other = refl
+said-elsewhere p (entry.Present k t mark) (about.Rule q) other = refl
+said-elsewhere p (entry.Present k t mark) (about.Denied q w) other = refl
+said-elsewhere p (entry.Present k t mark) (about.Present q w) other =
+    ap (entry.Present q w) (held-elsewhere p k t mark q w (λ h i. other (ap (λ x. about.Present x w) (sym h) ∙ ap (about.Present k) (sym i))))
 
 -- ---- several entries written
 
@@ -228,20 +114,20 @@ split x y xs has =
     ]
 
 -- what is said at a key afterwards, where each entry says what these routes say
-pub writes-agree : (es : List Entry) (p q : PlacesState) (routes : List Entry) → ArePlaces p → WritesAll p es q → All (λ e. said_by routes (key_of e) ≡ e) es → (key : EntryKey)
-    → (said_in p key ≡ said_by routes key) ⊎ Contains es (said_by routes key) → said_in q key ≡ said_by routes key
-writes-agree [] p q routes are written each key (inl is) = subst (λ s. said_in s key ≡ said_by routes key) (sym written) is
-writes-agree [] p q routes are written each key (inr has) = absurd (none-there (said_by routes key) has)
-writes-agree (e ∷ es) p q routes are written each key is =
-    writes-agree es (with_entry p e) q routes (are-places p e are) written.1 (All-tail (λ x. said_by routes (key_of x) ≡ x) e es each) key (next (same-or-other-key key (key_of e)) is)
+writes-agree : (es : List Entry) (p : PlacesState) (routes : List Entry) → All (λ e. said_by routes (key_of e) ≡ e) es → (key : EntryKey)
+    → (said_in p key ≡ said_by routes key) ⊎ Contains es (said_by routes key) → said_in (fold with_entry p es) key ≡ said_by routes key
+writes-agree [] p routes each key (inl is) = is
+writes-agree [] p routes each key (inr has) = absurd (none-there (said_by routes key) has)
+writes-agree (e ∷ es) p routes each key is =
+    writes-agree es (with_entry p e) routes (All-tail (λ x. said_by routes (key_of x) ≡ x) e es each) key (next (same-or-other-key key (key_of e)) is)
   where
     says : said_by routes (key_of e) ≡ e
     says = All-head (λ x. said_by routes (key_of x) ≡ x) e es each
 
     next : (key ≡ key_of e) ⊎ (key ≢ key_of e) → (said_in p key ≡ said_by routes key) ⊎ Contains (e ∷ es) (said_by routes key)
         → (said_in (with_entry p e) key ≡ said_by routes key) ⊎ Contains es (said_by routes key)
-    next (inl same) is = inl (subst (λ k. said_in (with_entry p e) k ≡ said_by routes k) (sym same) (written.0 ∙ sym says))
-    next (inr other) (inl is) = inl (said-elsewhere p e key are other ∙ is)
+    next (inl same) is = inl (subst (λ k. said_in (with_entry p e) k ≡ said_by routes k) (sym same) (said-here p e routes says ∙ sym says))
+    next (inr other) (inl is) = inl (said-elsewhere p e key other ∙ is)
     next (inr other) (inr has) =
         elim (split e (said_by routes key) es has) [
           | inl first ↦ absurd (other (sym (key-of-said routes key) ∙ ap key_of (sym first)))
@@ -249,39 +135,27 @@ writes-agree (e ∷ es) p q routes are written each key is =
         ]
 
 -- places agree with routes, once all is written that they said otherwise
-pub agree : (es : List Entry) (p q : PlacesState) (routes : List Entry) → ArePlaces p → WritesAll p es q → All (λ e. said_by routes (key_of e) ≡ e) es
-    → ((key : EntryKey) → (said_in p key ≡ said_by routes key) ⊎ Contains es (said_by routes key)) → Agrees q routes
-agree es p q routes are written each covers key = writes-agree es p q routes are written each key (covers key)
+pub agree : (es : List Entry) (p : PlacesState) (routes : List Entry) → All (λ e. said_by routes (key_of e) ≡ e) es
+    → ((key : EntryKey) → (said_in p key ≡ said_by routes key) ⊎ Contains es (said_by routes key)) → Agrees (fold with_entry p es) routes
+agree es p routes each covers key = writes-agree es p routes each key (covers key)
 
--- ---- entries written one after the other, the first so many of them
+-- ---- what stands
 
-pub none-are-places : ArePlaces no_places
-unfolding IsDistinct
-none-are-places = record { rules = tt; tables = tt; numbered = (tt, All-nil (AreNumbers [])) }
+standing-rule : (o : Option (Option RuleTarget)) → unwrap_or (option_filter is_some o) None ≡ unwrap_or o None
+standing-rule None = refl
+standing-rule (Some None) = refl
+standing-rule (Some (Some target)) = refl
 
-written-so-far : (before p : PlacesState) (es : List Entry) (i : ℕ) (e : Entry) → i < length es → e ≡ get_or es i e → p ≡ fold with_entry before (take i es) → with_entry p e ≡ fold with_entry before (take (i + 1) es)
-written-so-far before p es i e within is so_far =
-    ap (λ s. with_entry s e) so_far
-    ∙ sym (ap (fold with_entry before) (take_more es i e within ∙ ap (λ x. take i es ++ x ∷ []) (sym is)) ∙ fold-append with_entry before (take i es) (e ∷ []))
+standing-holders : (o : Option (List (List ℕ))) → unwrap_or (option_filter are_any o) [] ≡ unwrap_or o []
+standing-holders None = refl
+standing-holders (Some []) = refl
+standing-holders (Some (k ∷ ks)) = refl
 
-still-to-write : (before p : PlacesState) (es : List Entry) (i : ℕ) (e : Entry) → i < length es → e ≡ get_or es i e → said_in (with_entry p e) (key_of e) ≡ e
-    → ((q : PlacesState) → WritesAll p (drop i es) q → WritesAll before es q) → (q : PlacesState) → WritesAll (with_entry p e) (drop (i + 1) es) q → WritesAll before es q
-still-to-write before p es i e within is says left q written =
-    left q (subst (λ l. WritesAll p l q) (sym (drop_more es i e within ∙ ap (λ x. x ∷ drop (i + 1) es) (sym is))) (says, written))
-
--- one entry more
-pub written-more : (before p : PlacesState) (es : List Entry) (i : ℕ) (e : Entry) → i < length es → e ≡ get_or es i e → said_in (with_entry p e) (key_of e) ≡ e
-    → (p ≡ fold with_entry before (take i es)) × ((q : PlacesState) → WritesAll p (drop i es) q → WritesAll before es q)
-    → (with_entry p e ≡ fold with_entry before (take (i + 1) es)) × ((q : PlacesState) → WritesAll (with_entry p e) (drop (i + 1) es) q → WritesAll before es q)
-written-more before p es i e within is says so_far =
-    (written-so-far before p es i e within is so_far.0, still-to-write before p es i e within is says so_far.1)
-
--- the first so many of them, where the next was refused
-pub written-some : (before p after_next : PlacesState) (es : List Entry) (i : ℕ) (e : Entry) → i < length es → e ≡ get_or es i e → p ≡ fold with_entry before (take i es)
-    → (after_next ≡ p) ⊎ (after_next ≡ with_entry p e) → (n : ℕ) × (after_next ≡ fold with_entry before (take n es))
-written-some before p after_next es i e within is so_far (inl same) = (i, same ∙ so_far)
-written-some before p after_next es i e within is so_far (inr more) = (i + 1, more ∙ written-so-far before p es i e within is so_far)
-
--- all of them
-pub written-all : (before p : PlacesState) (es : List Entry) (i : ℕ) → length es ≤ i → ((q : PlacesState) → WritesAll p (drop i es) q → WritesAll before es q) → WritesAll before es p
-written-all before p es i done left = left p (subst (λ l. WritesAll p l p) (sym (drop_all i es done)) refl)
+-- what doesn't stand says nothing
+pub said-standing : (p : PlacesState) (key : EntryKey) → ArePlaces p → said_in (standing p) key ≡ said_in p key
+said-standing p (about.Rule q) are =
+    ap (entry.Rule q) (ap (λ o. unwrap_or o None) (lookup-filter-values (decided same_key same_key_decides) is_some q p.rules are.rules) ∙ standing-rule (lookup (same_key q) p.rules))
+said-standing p (about.Denied k t) are = refl
+said-standing p (about.Present k t) are =
+    ap (λ hs. entry.Present k t (list_any (same_text k) hs))
+    (ap (λ o. unwrap_or o []) (lookup-filter-values (decided same_text same_text_decides) are_any t p.tables are.tables) ∙ standing-holders (lookup (same_text t) p.tables))

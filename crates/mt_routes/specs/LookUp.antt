@@ -16,8 +16,6 @@ use Rattle.mt_model.specs.declared.faults.TopologyFault.{TopologyFault}
 use Rattle.mt_model.specs.Topology.{for_all_types, for_type, sole_holder}
 use Rattle.mt_routes.specs.declared.publication.Publication.{Publication}
 use Rattle.mt_routes.specs.declared.publication.Front.{Front}
-use Rattle.mt_routes.specs.declared.router.RouteFault.{RouteFault}
-use Rattle.mt_routes.specs.declared.router.RouteFault.TheVariants as fault
 
 -- the rule that an entry is, if it is one that stands
 abbrev pub rule_in : Entry → List (RuleKey × RuleTarget)
@@ -73,8 +71,7 @@ abbrev pub LastLeads : List Publication → RuleKey → TabletType → ℕ → R
 LastLeads list key tablet_type front answer =
     option_map {U = ℕ × Result RuleTarget TopologyFault} (λ p. (p.front, led_by p.entries key tablet_type)) (last_or None list) ≡ Some (front, answer)
 
--- what a router answers by its list. That it is closed says nothing of the list
-abbrev pub Routes : List Publication → RuleKey → TabletType → Result (RuleTarget × Front) RouteFault → Type 0
+-- what a router answers by its list
+abbrev pub Routes : List Publication → RuleKey → TabletType → Result (RuleTarget × Front) (TopologyFault × Front) → Type 0
 Routes list key tablet_type (Ok answer) = LastLeads list key tablet_type answer.1.0 (Ok answer.0)
-Routes list key tablet_type (Err (fault.Refused why front)) = LastLeads list key tablet_type front.0 (Err why)
-Routes list key tablet_type (Err fault.Closed) = Unit {0}
+Routes list key tablet_type (Err refusal) = LastLeads list key tablet_type refusal.1.0 (Err refusal.0)

@@ -17,6 +17,15 @@ front_of (Some p) = p.front
 abbrev pub last_front : List Publication → ℕ
 last_front list = front_of (last_or None list)
 
+-- the routes of a publication; before the first one there are none
+abbrev pub entries_of : Option Publication → List Entry
+entries_of None = []
+entries_of (Some p) = p.entries
+
+-- the routes of the last publication
+abbrev pub last_routes : List Publication → List Entry
+last_routes list = entries_of (last_or None list)
+
 -- no front is below the one before it, nor the first one below `front`
 abbrev pub rises_from : ℕ → List Publication → Bool
 rises_from front [] = true

@@ -14,7 +14,7 @@ place_of (entry.Rule key target) = place.Rule key
 place_of (entry.Denied keyspace table mark) = place.Table keyspace table
 place_of (entry.Present keyspace table mark) = place.Table keyspace table
 
--- those that take a rule or a table away come first, so that there is room for the others; each part is in the order of what they are about
+-- those that take a rule or a table away come first; each part is in the order of what they are about
 abbrev pub turn_of : Entry → Turn
 turn_of e = record { is_routed = is_routed e; place = place_of e }
 

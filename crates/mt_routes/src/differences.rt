@@ -1,14 +1,14 @@
 //! What is to be written so that places say what routes say.
-ghost use Rattle.std.specs.Prelude.{◌≡◌, ◌++◌, ◌∷◌, ◌↔◌, [], ℕ, List, Contains, IfOk, OnOk, filter, flat_map, is_some, not};
-ghost use Rattle.mt_routes.specs.LookUp.{is_listed, target_in};
-ghost use Rattle.mt_routes.specs.Places.{AreRoutes};
-ghost use Rattle.mt_routes.specs.Differences.{IsDifference, differences, is_said, rule_gone, table_gone, tables_gone};
-ghost use Rattle.mt_routes.specs.Turns.{AreInTurn};
+ghost use Rattle.std.specs.Prelude.{◌≡◌, ◌++◌, ◌∷◌, [], ℕ, List, IfOk, OnOk, filter, flat_map, is_some, not};
 ghost use Rattle.mt_model.specs.declared.entries.Entry.{Entry};
 ghost use Rattle.mt_names.specs.declared.keys.RuleKey.{RuleKey};
+ghost use Rattle.mt_routes.specs.Differences.{AreDifferences, differences, is_said, rule_gone, table_gone, tables_gone};
+ghost use Rattle.mt_routes.specs.LookUp.{is_listed, target_in};
+ghost use Rattle.mt_routes.specs.Places.{Agrees, AreRoutes};
+ghost use Rattle.mt_routes.specs.Turns.{AreInTurn};
 
 use crate::Places;
-use crate::numbers::{Numbers, keyspace_of};
+use crate::holders::Holders;
 use crate::turn::turn_of;
 use indexmap::IndexMap;
 use mt_model::Entry;
@@ -34,10 +34,8 @@ pub trait Standing {
 }
 
 impl Places {
-    /// What is to be written so that these places say what some routes say: each entry that they say otherwise, as the routes say it;
-    /// first those that take a rule or a table away, and each part in the order of what its entries are about. Who has the routes is
-    /// asked for what the places have. It is refused only when out of memory.
-    pub fn differences<S: Standing>(
+    /// What is to be written so that these places say what some routes say: see `Told::differences`.
+    pub(crate) fn differences<S: Standing>(
         &self,
         alloc: Global,
         standing: &S,
@@ -46,7 +44,7 @@ impl Places {
         requires routes { AreRoutes routes.now }
         requires rules { (key : RuleKey) → S.rules standing.now key ≡ is_some (target_in routes.now key) }
         requires tables { (keyspace table : List ℕ) → S.tables standing.now keyspace table ≡ is_listed routes.now keyspace table }
-        ensures entries { IfOk result (λ list. (e : Entry) → Contains list.items e ↔ IsDifference self.now routes.now e) }
+        ensures entries { IfOk result (λ list. (before : List Entry) → Agrees self.now before → AreDifferences before routes.now list.items) }
         ensures order { IfOk result (λ list. AreInTurn list.items) }
     {
         self.facts();
@@ -66,7 +64,7 @@ impl Places {
         ensures { OnOk result (list.new.items ≡ list.old.items ++ differences (S.rules standing.now) (S.tables standing.now) self.now routes.now) }
     {
         push_rules_gone(self.rules(), standing, list)?;
-        push_tables_gone(self.keyspaces(), self.tables(), standing, list)?;
+        push_tables_gone(self.tables(), standing, list)?;
         self.push_unsaid(routes, list)
     }
 
@@ -111,53 +109,34 @@ fn push_rules_gone<S: Standing>(
 
 /// Adds the tables that are to be taken away.
 fn push_tables_gone<S: Standing>(
-    keyspaces: &[KeyspaceName],
-    tables: &IndexMap<TableName, Numbers>,
+    tables: &IndexMap<TableName, Holders>,
     standing: &S,
     list: &mut Vec<Entry>,
 ) -> Result<(), AllocError>
-    ensures { OnOk result (list.new.items ≡ list.old.items ++ flat_map (tables_gone (S.tables standing.now) keyspaces.now) tables.now.entries) }
+    ensures { OnOk result (list.new.items ≡ list.old.items ++ flat_map (tables_gone (S.tables standing.now)) tables.now.entries) }
 {
-    for (table, numbers) in tables.iter() {
-        push_table_gone(keyspaces, table, numbers.as_slice(), standing, list)?;
+    for (table, holders) in tables.iter() {
+        push_table_gone(table, holders.as_slice(), standing, list)?;
     }
     Ok(())
 }
 
 /// Adds that a table is to be taken away from each keyspace that hasn't it any more.
 fn push_table_gone<S: Standing>(
-    keyspaces: &[KeyspaceName],
     table: &TableName,
-    numbers: &[u8],
+    holders: &[KeyspaceName],
     standing: &S,
     list: &mut Vec<Entry>,
 ) -> Result<(), AllocError>
-    ensures { OnOk result (list.new.items ≡ list.old.items ++ flat_map (table_gone (S.tables standing.now) keyspaces.now table.now) numbers.now) }
+    ensures { OnOk result (list.new.items ≡ list.old.items ++ flat_map (table_gone (S.tables standing.now) table.now) holders.now) }
 {
-    for number in numbers {
-        push_gone(keyspaces, table, *number, standing, list)?;
+    for keyspace in holders {
+        if !standing.has_table(keyspace, table) {
+            push(
+                list,
+                Entry::Present(keyspace.copied(), table.copied(), false),
+            )?;
+        }
     }
     Ok(())
-}
-
-/// Adds that a table is to be taken away from the keyspace of a number, if that hasn't it any more.
-fn push_gone<S: Standing>(
-    keyspaces: &[KeyspaceName],
-    table: &TableName,
-    number: u8,
-    standing: &S,
-    list: &mut Vec<Entry>,
-) -> Result<(), AllocError>
-    ensures { OnOk result (list.new.items ≡ list.old.items ++ table_gone (S.tables standing.now) keyspaces.now table.now number) }
-{
-    let Some(keyspace) = keyspace_of(keyspaces, number) else {
-        return Ok(());
-    };
-    if standing.has_table(keyspace, table) {
-        return Ok(());
-    }
-    push(
-        list,
-        Entry::Present(keyspace.copied(), table.copied(), false),
-    )
 }

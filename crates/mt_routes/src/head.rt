@@ -1,10 +1,10 @@
 //! A list of publications as it begins, and the word that its length is kept in.
-ghost use Rattle.std.specs.Prelude.{◌≡◌, ◌≤◌, ◌<◌, ◌^◌, ◌++◌, ◌∷◌, [], length, IsTrue};
-ghost use Rattle.mt_routes.specs.Publications.{Rises, last_front, publication};
+ghost use Rattle.std.specs.Prelude.{◌≡◌, ◌≤◌, ◌<◌, ◌^◌, ◌++◌, ◌∷◌, [], length, IfSome, IsTrue};
+ghost use Rattle.mt_routes.specs.Publications.{Rises, last_front};
 ghost use Rattle.mt_routes.specs.Rules.{head_of};
 
 use crate::law::{Add, Nothing};
-use crate::{Law, Naming, Next, Publication, Told};
+use crate::{Added, Law, Naming, Next, Publication, Told};
 use logbook::{Offer, Seen, Start, Word};
 use std::marker::PhantomData;
 
@@ -27,17 +27,19 @@ impl Opened {
         }
     }
 
-    /// The list's head under a name, and what is known of the list: nothing yet. It takes no memory.
-    pub fn named<J: Naming>(self) -> (Head<J>, Told<J>)
+    /// The list's head under a name, and the first publication, which was added to it. There is none where another was added before, as
+    /// nobody does who hasn't the list's head. It takes no memory.
+    pub fn named<J: Naming>(self, first: Next) -> Option<(Head<J>, Added<J>)>
         requires { self.seen.book ≡ J.book }
-        ensures { result.1 ≡ [] }
+        ensures { IfSome result (λ r. r.1 ≡ first ∷ []) }
     {
         let Opened { word, seen } = self;
         let head = Head {
             word,
             of: PhantomData,
         };
-        (head, Told::nothing(seen))
+        let added = head.add(0, seen, first)?;
+        Some((head, added))
     }
 }
 
@@ -50,18 +52,31 @@ pub struct Head<J: Naming> {
 }
 
 impl<J: Naming> Head<J> {
-    /// Adds a publication to the list where it is just what was seen, of so many publications, and says whether it did.
+    /// Adds a publication to the list where it is just what was seen, of so many publications.
     pub(crate) fn add(
         &self,
         count: u64,
-        seen: &mut Seen<Publication, u64, Law>,
-        next: &Next,
-    ) -> bool
+        mut seen: Seen<Publication, u64, Law>,
+        next: Next,
+    ) -> Option<Added<J>>
+        requires book { seen.book ≡ J.book }
+        requires count { (count ≡ length seen.log) × (count < 2 ^ 62) }
+        requires rises { last_front seen.log ≤ next.front }
+        ensures { IfSome result (λ added. added ≡ seen.log ++ next ∷ []) }
+    {
+        if !self.adds(count, &mut seen, &next) {
+            return None;
+        }
+        Some(Added::new(count + 1, seen, next))
+    }
+
+    /// The same in the list alone, and says whether it did.
+    fn adds(&self, count: u64, seen: &mut Seen<Publication, u64, Law>, next: &Next) -> bool
         requires book { seen.old.book ≡ J.book }
         requires count { (count ≡ length seen.old.log) × (count < 2 ^ 62) }
-        requires rises { last_front seen.old.log ≤ next.now.front.0 }
+        requires rises { last_front seen.old.log ≤ next.now.front }
         ensures book { seen.new.book ≡ J.book }
-        ensures added { IsTrue result → seen.new.log ≡ seen.old.log ++ publication next.now.front.0 next.now.entries.items ∷ [] }
+        ensures added { IsTrue result → seen.new.log ≡ seen.old.log ++ next.now ∷ [] }
         ensures rises { Rises seen.new.log }
     {
         let mut offer: Offer<Publication, u64, Law, Nothing> = seen.plain::<Nothing, Next, Add>(

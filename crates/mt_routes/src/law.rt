@@ -46,9 +46,8 @@ impl Play<Publication, u64> for Add {
 /// What a step asks for: the publication.
 impl Plain<Next, Publication, u64> for Add {
     ghost use Rattle.std.specs.Prelude.{None};
-    ghost use Rattle.mt_routes.specs.Publications.{publication};
 
-    ghost ask = { λ next. publication next.front.0 next.entries.items };
+    ghost ask = { λ next. next };
 
     ghost state = { λ next. None };
 }

@@ -1,5 +1,5 @@
 //! What follows from how publications are listed and names looked up.
-ghost use Rattle.std.specs.Prelude.{◌≡◌, ◌≤◌, ◌⊎◌, ◌↔◌, ℕ, List, Contains, Err};
+ghost use Rattle.std.specs.Prelude.{◌≡◌, ◌≤◌, ◌⊎◌, ℕ, List, Err, fold};
 ghost use mathlib.Core.List.{IsPrefix};
 ghost use Rattle.mt_names.specs.declared.keys.RuleKey.{RuleKey};
 ghost use Rattle.mt_names.specs.declared.types.TabletType.{TabletType};
@@ -9,9 +9,8 @@ ghost use Rattle.mt_model.specs.declared.faults.TopologyFault.TheVariants.{NoTab
 ghost use Rattle.mt_model.specs.Topology.{HasDistinctPlaces, TopologyState, is_present, resolution, routes_of, rule_at};
 ghost use Rattle.mt_routes.specs.declared.publication.Publication.{Publication};
 ghost use Rattle.mt_routes.specs.LookUp.{is_listed, led_by, target_in};
-ghost use Rattle.mt_routes.specs.Differences.{IsDifference};
-ghost use Rattle.mt_routes.specs.Pending.{WritesAll};
-ghost use Rattle.mt_routes.specs.Places.{Agrees, AreRoutes, ArePlaces, PlacesState};
+ghost use Rattle.mt_routes.specs.Differences.{AreDifferences};
+ghost use Rattle.mt_routes.specs.Places.{Agrees, AreRoutes, PlacesState, with_entry};
 ghost use Rattle.mt_routes.specs.Publications.{Rises, last_front};
 
 /// Where the fronts of a list never fall, a longer list's last front is no less than that of its beginning.
@@ -42,8 +41,8 @@ pub fn routes_say_what_their_topology_says()
     ensures tables { (t : TopologyState) (keyspace table : List ℕ) → HasDistinctPlaces t → is_listed (routes_of t) keyspace table ≡ is_present t.keyspaces keyspace table }
 {}
 
-/// Where all that is said otherwise is written, and is then said, what is said is what the routes say.
+/// Where all that routes say otherwise than those before them is written, what is said is what the routes say.
 pub fn what_is_written_agrees()
-    ensures { (before after : PlacesState) (written routes : List Entry) → ArePlaces before → WritesAll before written after
-        → ((e : Entry) → Contains written e ↔ IsDifference before routes e) → Agrees after routes }
+    ensures { (places : PlacesState) (before routes written : List Entry) → Agrees places before → AreDifferences before routes written
+        → Agrees (fold with_entry places written) routes }
 {}

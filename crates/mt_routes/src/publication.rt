@@ -1,6 +1,13 @@
 //! Publications.
+ghost use Rattle.std.specs.Prelude.{◌≡◌, IfOk};
+ghost use Rattle.mt_routes.specs.Places.{Agrees, AreRoutes};
+ghost use Rattle.mt_routes.specs.Publications.{publication};
 
+use crate::Places;
 use mt_model::Entry;
+use std::alloc::{AllocError, Global};
+use std::marker::Model;
+use std::sync::Arc;
 
 /// A number of lines of the history: what is shown are the routes after them.
 #[derive(Clone, Copy, Debug, Eq, Ord, PartialEq, PartialOrd)]
@@ -15,11 +22,53 @@ pub struct Publication {
     pub entries: [Entry; 0],
 }
 
-/// A publication that is to come.
-#[derive(Debug, Drop)]
+/// A publication that is to come, with all memory that it takes. Contracts see it as the publication. Its routes, as they are looked
+/// up, have three owners: whoever adds it, what routers are shown, and whoever is told of it.
+#[derive(Drop)]
 pub struct Next {
-    /// After how many lines of the history the routes stand.
-    pub front: Front,
-    /// The routes.
-    pub entries: Vec<Entry>,
+    pub(crate) front: Front,
+    pub(crate) entries: Vec<Entry>,
+    pub(crate) kept: Arc<Places>,
+    pub(crate) shown: Arc<Places>,
+    pub(crate) told: Arc<Places>,
+}
+
+impl Model for Next {
+    ghost use Rattle.std.specs.Arc.{arc_value};
+    ghost use Rattle.mt_routes.specs.declared.publication.Publication.{Publication};
+    ghost use Rattle.mt_routes.specs.Places.{Agrees, AreRoutes};
+    ghost use Rattle.mt_routes.specs.Publications.{publication};
+
+    ghost Value = { Publication };
+
+    ghost view = { λ n. publication n.front.0 n.entries.items };
+
+    ghost invariant = { λ n. AreRoutes n.entries.items × Agrees (arc_value n.kept) n.entries.items × Agrees (arc_value n.shown) n.entries.items
+        × Agrees (arc_value n.told) n.entries.items };
+}
+
+impl Next {
+    /// A publication of these routes, which stand after so many lines of the history, and are looked up in these places. It is refused
+    /// only when out of memory; then the places are gone.
+    pub fn new(
+        alloc: Global,
+        front: Front,
+        entries: Vec<Entry>,
+        places: Places,
+    ) -> Result<Next, AllocError>
+        requires routes { AreRoutes entries.items }
+        requires agrees { Agrees places entries.items }
+        ensures { IfOk result (λ next. next ≡ publication front.0 entries.items) }
+    {
+        let kept = Arc::new(alloc, places)?;
+        let shown = Arc::try_clone(&kept)?;
+        let told = Arc::try_clone(&kept)?;
+        Ok(Next {
+            front,
+            entries,
+            kept,
+            shown,
+            told,
+        })
+    }
 }

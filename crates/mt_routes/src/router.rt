@@ -1,84 +1,72 @@
-//! Routers: readers that look names up without a lock.
-ghost use Rattle.std.specs.Prelude.{◌≡◌, ◌≤◌, ◌⊎◌};
+//! Routers, which look names up and wait for nobody.
+ghost use Rattle.std.specs.Prelude.{◌≡◌, ◌≤◌, ◌⊎◌, IfOk};
 ghost use mathlib.Core.List.{IsPrefix};
 ghost use Rattle.mt_routes.specs.LookUp.{Routes};
 ghost use Rattle.mt_routes.specs.Publications.{last_front};
-ghost use Rattle.mt_routes.specs.Views.{Fits};
 
-use crate::{Front, Naming, Ties, Told, View};
-use left_right::reader::Reader;
+use crate::{Front, Naming, Shown, Told};
 use mt_model::TopologyFault;
 use mt_names::{RuleKey, RuleTarget, TabletType};
 use std::marker::Model;
+use std::sync::Arc;
 use thiserror::Error;
 
-/// Why a router answers no target.
+/// How many routers there may be at once.
+pub const MAX_ROUTERS: usize = 8;
+
+/// There are as many routers as there may be.
 #[derive(Clone, Copy, Debug, Eq, Error, PartialEq)]
-pub enum RouteFault {
-    /// No keyspace has the table (`T2 NoTable`), or several have it and the name says none (`T3 Ambiguous`), after so
-    /// many lines of the history.
-    #[error("{0}")]
-    Refused(TopologyFault, Front),
-    /// The writer of routes is gone, or shows less than the router was told.
-    #[error("closed")]
-    Closed,
-}
+#[error("RoutersFull")]
+pub struct RoutersFull;
 
-/// A reader of the list's views.
-pub type RouteReader<J> = Reader<View, (), Ties<J>>;
-
-/// Looks names up in the last publication, without a lock. Contracts see it as the list of publications that it knows,
-/// which only grows.
+/// Looks names up in the last publication that it knows of, and waits for nobody. Contracts see it as the list of publications that it
+/// knows, which only grows. (Vitess: a vtgate)
 #[derive(Drop)]
 pub struct Router<J: Naming> {
     told: Told<J>,
-    reader: Option<RouteReader<J>>,
+    shown: Arc<Shown<J>>,
 }
 
 impl<J: Naming> Model for Router<J> {
-    ghost use Rattle.std.specs.Prelude.{List, IsSome};
+    ghost use Rattle.std.specs.Prelude.{List};
     ghost use Rattle.mt_routes.specs.declared.publication.Publication.{Publication};
 
     ghost Value = { List Publication };
 
     ghost view = { λ r. r.told };
-
-    ghost invariant = { λ r. IsSome r.reader };
 }
 
 impl<J: Naming> Router<J> {
-    /// A router with a reader, which knows of the list what it was told.
-    pub(crate) fn new(told: Told<J>, reader: RouteReader<J>) -> Router<J>
-        ensures { result ≡ told }
+    /// A router that is shown this, and knows of the list what it is told. `RoutersFull` where there are eight, beside the one owner that
+    /// shows it, and where owners can't be counted any further.
+    pub fn new(shown: &Arc<Shown<J>>, told: Told<J>) -> Result<Router<J>, RoutersFull>
+        ensures { IfOk result (λ router. router ≡ told) }
     {
-        Router {
-            told,
-            reader: Some(reader),
+        if Arc::strong_count(shown) > MAX_ROUTERS {
+            return Err(RoutersFull);
+        }
+        match Arc::try_clone(shown) {
+            Ok(shown) => Ok(Router { told, shown }),
+            Err(_) => Err(RoutersFull),
         }
     }
 
-    /// Where a name leads for a type: by the last publication of the list, as it is known afterwards, with the front of
-    /// that publication. It waits for nobody and takes no memory.
+    /// Where a name leads for a type, by the last publication that the router knows of, with the front of that; or why it leads nowhere,
+    /// with the front: `T2 NoTable`, where no keyspace has the table, and `T3 Ambiguous`, where several have it and the name says none.
+    /// Before that it takes over what is shown, if that is later and isn't just being replaced. It waits for nobody and takes no memory.
     pub fn route(
         &mut self,
         key: &RuleKey,
         tablet_type: TabletType,
-    ) -> Result<(RuleTarget, Front), RouteFault>
+    ) -> Result<(RuleTarget, Front), (TopologyFault, Front)>
         ensures grows { IsPrefix self.old self.new }
         ensures fronts { last_front self.old ≤ last_front self.new }
         ensures answer { Routes self.new key.now tablet_type result }
     {
-        let reader = self.reader.take().unwrap();
-        let reading = match reader.enter_as::<Ties<J>>() {
-            Ok(reading) => reading,
-            Err(reader) => {
-                self.reader = Some(reader);
-                return Err(RouteFault::Closed);
-            }
-        };
-        let answer = shown_by(reading.get(), &mut self.told, key, tablet_type);
-        self.reader = Some(reading.leave());
-        answer
+        if let Some(latest) = self.shown.beyond(self.told.len()) {
+            self.learn(latest);
+        }
+        self.told.find(key, tablet_type)
     }
 
     /// Takes in what was told of the list. From then on the router knows at least that.
@@ -88,26 +76,6 @@ impl<J: Naming> Router<J> {
         ensures told { IsPrefix told self.new }
         ensures fronts { last_front self.old ≤ last_front self.new }
     {
-        self.told = self.told.longer(&told);
+        self.told.learn(told);
     }
-}
-
-/// Where a name leads by a view, and what is known of the list is then what the view shows; unless that is less than what was told.
-fn shown_by<J: Naming>(
-    view: &View,
-    told: &mut Told<J>,
-    key: &RuleKey,
-    tablet_type: TabletType,
-) -> Result<(RuleTarget, Front), RouteFault>
-    requires { Fits J.book view.now }
-    ensures grows { IsPrefix told.old told.new }
-    ensures fronts { last_front told.old ≤ last_front told.new }
-    ensures answer { Routes told.new key.now tablet_type result }
-{
-    let shown = Told::of(&view.known);
-    if shown.len() < told.len() {
-        return Err(RouteFault::Closed);
-    }
-    *told = told.longer(&shown);
-    view.find(key, tablet_type)
 }

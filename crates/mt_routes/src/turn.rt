@@ -14,8 +14,8 @@ pub enum Place {
     Table(KeyspaceName, TableName),
 }
 
-/// The turn of an entry: those that take a rule or a table away come first, so that there is room for the others. Each part is in
-/// the order of what its entries are about.
+/// The turn of an entry: those that take a rule or a table away come first, and each part is in the order of what its
+/// entries are about.
 #[derive(Debug, Drop, Eq, Ord, PartialEq, PartialOrd)]
 pub struct Turn {
     /// Whether a rule or a table stands afterwards.

@@ -1,11 +1,11 @@
 //! Tables of acts: publications with their routes, and what routers answer.
 ghost use Rattle.std.specs.Prelude.{◌≡◌};
 
-use crate::said::{Said, topology_of};
+use crate::said::Said;
 use crate::scene::Scene;
 use mt_model::TopologyFault;
 use mt_names::{RuleKey, RuleTarget, TabletType};
-use mt_routes::{Front, MAX_ROUTERS, Naming, Opened, RouteFault, Router};
+use mt_routes::{Front, MAX_ROUTERS, Naming, Opened, Router};
 use std::alloc::Global;
 use std::marker::Brand;
 use std::sync::Wait;
@@ -16,8 +16,6 @@ use std::test::Fail;
 enum Act<'a> {
     /// A publication with this front is added and shown.
     Publishes(u64, &'a [Said<'a>]),
-    /// One is added and shown, and a router that learns of it before it is shown is closed until then.
-    PublishesLate(u64, &'a [Said<'a>]),
     /// None is added with this front.
     Refuses(u64, &'a [Said<'a>]),
     /// So many publications are known.
@@ -63,43 +61,35 @@ pub fn fails<J: Naming>(
     front: u64,
 ) -> bool {
     match RuleKey::parse(name) {
-        Ok(key) => {
-            router.route(&key, tablet_type) == Err(RouteFault::Refused(fault, Front(front)))
+        Ok(key) => router.route(&key, tablet_type) == Err((fault, Front(front))),
+        Err(_) => false,
+    }
+}
+
+/// Whether a router learns what is known.
+pub fn learns<J: Naming>(scene: &Scene<J>, router: &mut Router<J>) -> bool {
+    match scene.told().again() {
+        Ok(told) => {
+            router.learn(told);
+            true
         }
         Err(_) => false,
     }
 }
 
-/// Whether one is added and shown, and a router that learns of it before it is shown is closed until then.
-fn is_added_late<J: Naming, R: Wait + Drop + Copy>(
-    alloc: Global,
-    scene: &mut Scene<J, R>,
-    router: &mut Router<J>,
-    front: u64,
-    said: &[Said<'_>],
-) -> bool {
-    match (RuleKey::parse("x"), topology_of(alloc, said)) {
-        (Ok(key), Some(topology)) => scene.publishes_late(alloc, front, &topology, router, &key),
-        _ => false,
-    }
-}
-
 /// Whether an act is answered so.
-fn is_so<J: Naming, R: Wait + Drop + Copy>(
+fn is_so<J: Naming, R: Wait>(
+    rt: &R,
     alloc: Global,
-    scene: &mut Scene<J, R>,
+    scene: &mut Scene<J>,
     router: &mut Router<J>,
     act: Act<'_>,
 ) -> bool {
     match act {
-        Act::Publishes(front, said) => scene.says(alloc, front, said),
-        Act::PublishesLate(front, said) => is_added_late(alloc, scene, router, front, said),
-        Act::Refuses(front, said) => !scene.says(alloc, front, said),
+        Act::Publishes(front, said) => scene.says(rt, alloc, front, said),
+        Act::Refuses(front, said) => !scene.says(rt, alloc, front, said),
         Act::Counts(many) => scene.told().len() == many,
-        Act::Learns => {
-            router.learn(scene.told());
-            true
-        }
+        Act::Learns => learns(scene, router),
         Act::Leads(name, tablet_type, target, front) => {
             leads(router, name, tablet_type, target, front)
         }
@@ -110,14 +100,15 @@ fn is_so<J: Naming, R: Wait + Drop + Copy>(
 }
 
 /// The index of the first act that isn't answered so at a scene, or how many there are.
-fn played<J: Naming, R: Wait + Drop + Copy>(
+fn played<J: Naming, R: Wait>(
+    rt: &R,
     alloc: Global,
-    scene: &mut Scene<J, R>,
+    scene: &mut Scene<J>,
     router: &mut Router<J>,
     acts: &[Act<'_>],
 ) -> usize {
     for (index, act) in acts.iter().enumerate() {
-        if !is_so(alloc, scene, router, *act) {
+        if !is_so(rt, alloc, scene, router, *act) {
             return index;
         }
     }
@@ -125,30 +116,31 @@ fn played<J: Naming, R: Wait + Drop + Copy>(
 }
 
 /// The index of the first act that isn't answered so by a new router, if there is a place for it.
-fn plays_at<J: Naming, R: Wait + Drop + Copy>(
+fn plays_at<J: Naming, R: Wait>(
+    rt: &R,
     alloc: Global,
-    scene: &mut Scene<J, R>,
+    scene: &mut Scene<J>,
     acts: &[Act<'_>],
 ) -> Option<usize> {
     match scene.router() {
-        Ok(mut router) => Some(played(alloc, scene, &mut router, acts)),
+        Ok(mut router) => Some(played(rt, alloc, scene, &mut router, acts)),
         Err(_) => None,
     }
 }
 
 /// The index of the first act that isn't answered so at a new list, if there is memory for it.
-fn plays<J: Naming, R: Wait + Drop + Copy>(
+fn plays<J: Naming, R: Wait>(
+    rt: &R,
     alloc: Global,
-    rt: R,
     opened: Opened,
     acts: &[Act<'_>],
 ) -> Option<usize>
     requires { opened.seen.book ≡ J.book }
 {
     let said = [Said::Rule("x", "a.t"), Said::Table("a", "u")];
-    let made: Option<Scene<J, R>> = Scene::of(alloc, rt, opened, 0, &said);
+    let made: Option<Scene<J>> = Scene::of(alloc, opened, 0, &said);
     match made {
-        Some(mut scene) => plays_at(alloc, &mut scene, acts),
+        Some(mut scene) => plays_at(rt, alloc, &mut scene, acts),
         None => None,
     }
 }
@@ -200,7 +192,7 @@ static LOOK_UPS: [Act<'static>; 24] = [
     Act::Fails("u", PRIMARY, NO_TABLE, 7),
 ];
 
-/// What was published is shown to a router that wasn't told of it; one that was told sooner waits for it. What is refused isn't shown.
+/// What was published is shown to a router that wasn't told of it, and one that was told answers by it too. What is refused isn't shown.
 static TOLD: [Act<'static>; 17] = [
     Act::Learns,
     Act::Leads("x", PRIMARY, "a.t", 0),
@@ -211,9 +203,9 @@ static TOLD: [Act<'static>; 17] = [
     Act::Refuses(0, &[]),
     Act::Refuses(0, &[Said::Rule("x", "e.t")]),
     Act::Leads("x", PRIMARY, "b.t", 1),
-    Act::PublishesLate(2, &[Said::Rule("x", "c.t")]),
+    Act::Publishes(2, &[Said::Rule("x", "c.t")]),
     Act::Leads("x", PRIMARY, "c.t", 2),
-    Act::PublishesLate(9, &[]),
+    Act::Publishes(9, &[]),
     Act::Fails("x", PRIMARY, NO_TABLE, 9),
     Act::Publishes(9, &[Said::Rule("x", "d.t")]),
     Act::Learns,
@@ -262,7 +254,7 @@ static UNCHANGED: [Act<'static>; 13] = [
     Act::Leads("u", PRIMARY, "a.u", 4),
     Act::Fails("y", PRIMARY, NO_TABLE, 4),
     Act::Counts(2),
-    Act::PublishesLate(5, &[Said::Table("a", "u"), Said::Rule("x", "a.t")]),
+    Act::Publishes(5, &[Said::Table("a", "u"), Said::Rule("x", "a.t")]),
     Act::Leads("x", PRIMARY, "a.t", 5),
     Act::Leads("u", PRIMARY, "a.u", 5),
     Act::Publishes(5, &[Said::Table("a", "u"), Said::Rule("x", "a.t")]),
@@ -280,17 +272,14 @@ fn routers_answer_by_what_is_published(rt: HostRuntime) -> Result<(), Fail> {
         UNCHANGED.as_slice(),
     ];
     for acts in tables.iter() {
-        let played = plays::<Brand, _>(rt.alloc(), &rt, Opened::new(), *acts);
+        let played = plays::<Brand, _>(&rt, rt.alloc(), Opened::new(), *acts);
         assert_eq!(rt; played, Some(acts.len()));
     }
     Ok(())
 }
 
 /// Whether there is a place for one more router, which is added to the others.
-fn has_a_place<J: Naming, R: Wait + Drop + Copy>(
-    scene: &Scene<J, R>,
-    routers: &mut Vec<Router<J>>,
-) -> bool {
+fn has_a_place<J: Naming>(scene: &Scene<J>, routers: &mut Vec<Router<J>>) -> bool {
     match scene.router() {
         Ok(router) => routers.push(router).is_ok(),
         Err(_) => false,
@@ -298,10 +287,7 @@ fn has_a_place<J: Naming, R: Wait + Drop + Copy>(
 }
 
 /// Whether there are eight places for routers, and one is free again behind a router that is dropped.
-fn are_eight<J: Naming, R: Wait + Drop + Copy>(
-    scene: &Scene<J, R>,
-    routers: &mut Vec<Router<J>>,
-) -> bool {
+fn are_eight<J: Naming>(scene: &Scene<J>, routers: &mut Vec<Router<J>>) -> bool {
     for _ in 0..MAX_ROUTERS {
         if !has_a_place(scene, routers) {
             return false;
@@ -312,35 +298,31 @@ fn are_eight<J: Naming, R: Wait + Drop + Copy>(
     is_full && has_a_place(scene, routers)
 }
 
-/// Whether the newest router answers by what is published, or that it is closed.
-fn is_newest_so<J: Naming>(routers: &mut Vec<Router<J>>, is_open: bool) -> bool {
-    let (Ok(key), Some(last)) = (RuleKey::parse("x"), routers.last_mut()) else {
-        return false;
-    };
-    if is_open {
-        leads(last, "x", PRIMARY, "a.t", 5)
-    } else {
-        last.route(&key, PRIMARY) == Err(RouteFault::Closed)
+/// Whether the newest router answers by what was published.
+fn is_newest_so<J: Naming>(routers: &mut Vec<Router<J>>) -> bool {
+    match routers.last_mut() {
+        Some(last) => leads(last, "x", PRIMARY, "a.t", 5),
+        None => false,
     }
 }
 
-/// Whether there are eight places for routers, one is free again behind a router that is dropped, and routers are closed behind the
-/// writer.
-fn has_eight_places<J: Naming, R: Wait + Drop + Copy>(alloc: Global, rt: R, opened: Opened) -> bool
+/// Whether there are eight places for routers, one is free again behind a router that is dropped, and routers answer as before once
+/// nobody shows anything any more.
+fn has_eight_places<J: Naming>(alloc: Global, opened: Opened) -> bool
     requires { opened.seen.book ≡ J.book }
 {
-    let made: Option<Scene<J, R>> = Scene::of(alloc, rt, opened, 5, &[Said::Rule("x", "a.t")]);
+    let made: Option<Scene<J>> = Scene::of(alloc, opened, 5, &[Said::Rule("x", "a.t")]);
     let Some(scene) = made else {
         return false;
     };
     let mut routers = Vec::new(alloc);
-    let was_open = are_eight(&scene, &mut routers) && is_newest_so(&mut routers, true);
+    let are_so = are_eight(&scene, &mut routers) && is_newest_so(&mut routers);
     drop(scene);
-    was_open && is_newest_so(&mut routers, false)
+    are_so && is_newest_so(&mut routers)
 }
 
 #[test]
 fn there_are_eight_places(rt: HostRuntime) -> Result<(), Fail> {
-    assert!(rt; has_eight_places::<Brand, _>(rt.alloc(), &rt, Opened::new()));
+    assert!(rt; has_eight_places::<Brand>(rt.alloc(), Opened::new()));
     Ok(())
 }

@@ -1,14 +1,11 @@
 //! Tests of routes by direct call: tables of acts with what each is answered, publications in turn whose names go and come back,
-//! two that pass whichever allocation fails, many routes and one keyspace too many, readers in threads, and look-ups whose time is
-//! measured.
+//! two that pass whichever allocation fails, many routes, readers in threads, and look-ups whose time is measured.
 #![tactic(auto)]
 
 #[cfg(test)]
 mod acts;
 #[cfg(test)]
 mod memory;
-#[cfg(test)]
-mod room;
 #[cfg(test)]
 mod said;
 #[cfg(test)]

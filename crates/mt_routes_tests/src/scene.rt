@@ -1,24 +1,17 @@
-//! A list of publications with its writer, which is told of routes by topologies.
-ghost use Rattle.std.specs.Prelude.{◌≡◌, ◌≤◌, ◌<◌, ◌↔◌, ◌^◌, Contains, IsTrue, IfOk, IfSome, Some, None, length, option_map};
-ghost use Rattle.std.specs.List.{last_or};
+//! A list of publications with what shows them, which is told of routes by topologies.
+ghost use Rattle.std.specs.Prelude.{◌≡◌, IfOk};
 ghost use Rattle.mt_model.specs.Topology.{routes_of};
-ghost use Rattle.mt_model.specs.declared.entries.Entry.{Entry};
-ghost use Rattle.mt_routes.specs.Differences.{IsDifference};
-ghost use Rattle.mt_routes.specs.Pending.{pending_of};
-ghost use Rattle.mt_routes.specs.Places.{Agrees, AreRoutes, Shows};
-ghost use Rattle.mt_routes.specs.Publications.{last_front};
+ghost use Rattle.mt_routes.specs.Publications.{publication};
 
 use crate::said::{Said, topology_of};
-use mt_model::Entry;
-use mt_names::{KeyspaceName, RuleKey, TableName, TabletType};
+use mt_names::{KeyspaceName, RuleKey, TableName};
 use mt_routes::{
-    Ends, Front, Head, Naming, Next, Opened, Places, RouteFault, Router, RoutersFull, Standing,
-    Told, routes_of_a_topology_say_each_of_themselves, routes_say_what_their_topology_says,
-    what_is_written_agrees,
+    Front, Head, Naming, Next, Opened, Places, Router, RoutersFull, Shown, Standing, Told,
+    routes_of_a_topology_say_each_of_themselves, routes_say_what_their_topology_says,
 };
 use mt_topology::Topology;
 use std::alloc::{AllocError, Global};
-use std::sync::Wait;
+use std::sync::{Arc, Wait};
 
 /// How many publications there are to be at most.
 const LIMIT: u64 = 1 << 62;
@@ -46,198 +39,114 @@ impl<'a> Standing for Served<'a> {
     }
 }
 
-/// What is to be written behind what is pending, so that it says what the routes of a topology say.
-fn differences(
+/// A first publication of a topology's routes, if there is memory for it.
+fn first_of(alloc: Global, front: u64, topology: &Topology) -> Result<Next, AllocError>
+    ensures { IfOk result (λ next. next ≡ publication front (routes_of topology.now)) }
+{
+    topology.facts();
+    routes_of_a_topology_say_each_of_themselves();
+    let entries = topology.routes(alloc)?;
+    let places = Places::of(alloc, &entries)?;
+    Next::new(alloc, Front(front), entries, places)
+}
+
+/// The publication of a topology's routes that follows what is known, if there is memory for it: what is said otherwise is written to a copy
+/// of the last publication's routes.
+fn next_of<J: Naming>(
     alloc: Global,
-    pending: &Places,
+    front: u64,
+    told: &Told<J>,
     topology: &Topology,
-    routes: &[Entry],
-) -> Result<Vec<Entry>, AllocError>
-    requires { routes.now ≡ routes_of topology.now }
-    ensures { IfOk result (λ entries. (e : Entry) → Contains entries.items e ↔ IsDifference pending.now routes.now e) }
+) -> Result<Next, AllocError>
+    ensures { IfOk result (λ next. next ≡ publication front (routes_of topology.now)) }
 {
     topology.facts();
     routes_of_a_topology_say_each_of_themselves();
     routes_say_what_their_topology_says();
-    pending.differences(alloc, &Served { topology }, routes)
+    let entries = topology.routes(alloc)?;
+    let differences = told.differences(alloc, &Served { topology }, &entries)?;
+    let places = told.written(alloc, &differences)?;
+    Next::new(alloc, Front(front), entries, places)
 }
 
-/// Whether all is written that is to be, so that what is pending says what the routes of a topology say, and there is room for a
-/// publication. It isn't where memory is short, or a view has no room.
-fn is_written<J: Naming, R: Wait + Drop>(
-    alloc: Global,
-    ends: &mut Ends<J, R>,
-    topology: &Topology,
-    routes: &[Entry],
-) -> bool
-    requires { routes.now ≡ routes_of topology.now }
-    ensures { IsTrue result → Agrees (pending_of ends.new.shown) routes.now }
-{
-    let Some(pending) = ends.pending() else {
-        return false;
-    };
-    pending.facts();
-    what_is_written_agrees();
-    let Ok(entries) = differences(alloc, pending, topology, routes) else {
-        return false;
-    };
-    if !ends.write(&entries) {
-        return false;
-    }
-    ends.make_room()
-}
-
-/// A publication of a topology's routes, if there is memory for it.
-fn next_of(alloc: Global, front: u64, topology: &Topology) -> Option<Next>
-    ensures { IfSome result (λ next. next.entries.items ≡ routes_of topology.now) }
-{
-    let entries = topology.routes(alloc).ok()?;
-    Some(Next {
-        front: Front(front),
-        entries,
-    })
-}
-
-/// The same, made at once or at a second try.
-fn first_of(alloc: Global, front: u64, topology: &Topology) -> Option<Next>
-    ensures { IfSome result (λ next. next.entries.items ≡ routes_of topology.now) }
-{
-    match next_of(alloc, front, topology) {
-        Some(next) => Some(next),
-        None => next_of(alloc, front, topology),
+/// A first publication, made at once or at a second try.
+fn first_at_last(alloc: Global, front: u64, topology: &Topology) -> Option<Next> {
+    match first_of(alloc, front, topology) {
+        Ok(next) => Some(next),
+        Err(_) => first_of(alloc, front, topology).ok(),
     }
 }
 
-/// Whether a publication may follow those that are known.
-fn may_follow<J: Naming>(told: &Told<J>, next: &Next) -> bool
-    ensures room { IsTrue result → length told.now < 2 ^ 62 }
-    ensures rises { IsTrue result → last_front told.now ≤ next.now.front.0 }
-{
-    told.len() < LIMIT && told.front() <= next.front
-}
-
-/// The ends of a list of which this is known, whose last publication has these routes, made at once or at a second try.
-fn ends_of<J: Naming, R: Wait + Drop + Copy>(
-    alloc: Global,
-    rt: R,
-    told: &Told<J>,
-    routes: &[Entry],
-) -> Option<Ends<J, R>>
-    requires last { option_map (λ p. p.entries) (last_or None told.now) ≡ Some routes.now }
-    requires routes { AreRoutes routes.now }
-{
-    match Ends::open(alloc, rt, told, routes) {
-        Ok(ends) => Some(ends),
-        Err(_) => Ends::open(alloc, rt, told, routes).ok(),
-    }
-}
-
-/// A list of publications, what is known of it, and the writer that shows them.
+/// A list of publications, what is known of it, and what routers are shown.
 #[derive(Drop)]
-pub struct Scene<J: Naming, R: Wait + Drop> {
+pub struct Scene<J: Naming> {
     head: Head<J>,
     told: Told<J>,
-    ends: Ends<J, R>,
+    shown: Arc<Shown<J>>,
 }
 
-impl<J: Naming, R: Wait + Drop + Copy> Scene<J, R> {
-    /// A list with one publication, of the routes of a topology, which is shown. What runs out of memory is made a second time.
-    pub fn open(
-        alloc: Global,
-        rt: R,
-        opened: Opened,
-        front: u64,
-        topology: &Topology,
-    ) -> Option<Scene<J, R>>
+impl<J: Naming> Scene<J> {
+    /// A list with one publication, of the routes of a topology, which is shown. What runs out of memory is made a second time, but for
+    /// what is shown.
+    pub fn open(alloc: Global, opened: Opened, front: u64, topology: &Topology) -> Option<Scene<J>>
         requires { opened.seen.book ≡ J.book }
     {
-        topology.facts();
-        routes_of_a_topology_say_each_of_themselves();
-        let first = first_of(alloc, front, topology)?;
-        let (head, mut told) = opened.named::<J>();
-        if !told.add(&head, &first) {
-            return None;
-        }
-        let ends = ends_of(alloc, rt, &told, &first.entries)?;
-        Some(Scene { head, told, ends })
+        let first = first_at_last(alloc, front, topology)?;
+        let (head, first) = opened.named::<J>(first)?;
+        let (shown, told) = Shown::open(alloc, first).ok()?;
+        Some(Scene { head, told, shown })
     }
 
     /// A list with one publication of these routes, which is shown.
-    pub fn of(
-        alloc: Global,
-        rt: R,
-        opened: Opened,
-        front: u64,
-        said: &[Said<'_>],
-    ) -> Option<Scene<J, R>>
+    pub fn of(alloc: Global, opened: Opened, front: u64, said: &[Said<'_>]) -> Option<Scene<J>>
         requires { opened.seen.book ≡ J.book }
     {
         let topology = topology_of(alloc, said)?;
-        Scene::open(alloc, rt, opened, front, &topology)
+        Scene::open(alloc, opened, front, &topology)
     }
 
     /// What is known of the list.
-    pub fn told(&self) -> Told<J> {
-        self.told.again()
+    pub fn told(&self) -> &Told<J> {
+        &self.told
     }
 
     /// A router that knows what is known here.
     pub fn router(&self) -> Result<Router<J>, RoutersFull> {
-        self.ends.router(self.told.again())
+        match self.told.again() {
+            Ok(told) => Router::new(&self.shown, told),
+            Err(_) => Err(RoutersFull),
+        }
     }
 
-    /// Whether the routes of a topology are written behind what is pending, and are added to the list as a publication, for which there
-    /// is room at the writer.
-    fn adds(&mut self, alloc: Global, front: u64, topology: &Topology) -> bool
-        ensures { IsTrue result → Shows self.new.told (pending_of self.new.ends.shown) }
-    {
-        topology.facts();
-        routes_of_a_topology_say_each_of_themselves();
-        let Some(next) = next_of(alloc, front, topology) else {
-            return false;
-        };
-        let Scene { head, told, ends } = self;
-        if !may_follow(told, &next) {
-            return false;
-        }
-        if !is_written(alloc, ends, topology, &next.entries) {
-            return false;
-        }
-        told.add(head, &next)
-    }
-
-    /// Whether a publication of a topology's routes is added and shown. It isn't where its front is below the last one, where memory is
-    /// short, and where a view has no room for it; then what was published before is still shown.
-    pub fn publishes(&mut self, alloc: Global, front: u64, topology: &Topology) -> bool {
-        let is_added = self.adds(alloc, front, topology);
-        if is_added {
-            self.ends.publish(&self.told);
-        }
-        is_added
-    }
-
-    /// Whether a publication is added and shown, and a router that is told of it in between answers that it is closed.
-    pub fn publishes_late(
+    /// Whether a publication of a topology's routes is added and shown. It isn't where its front is below the last one, and where memory is
+    /// short; then what was published before is still shown.
+    pub fn publishes<R: Wait>(
         &mut self,
+        rt: &R,
         alloc: Global,
         front: u64,
         topology: &Topology,
-        router: &mut Router<J>,
-        key: &RuleKey,
     ) -> bool {
-        if !self.adds(alloc, front, topology) {
+        let Scene { head, told, shown } = self;
+        if told.len() >= LIMIT || told.front() > Front(front) {
             return false;
         }
-        router.learn(self.told.again());
-        let early = router.route(key, TabletType::Primary);
-        self.ends.publish(&self.told);
-        early == Err(RouteFault::Closed)
+        let Ok(next) = next_of(alloc, front, told, topology) else {
+            return false;
+        };
+        match told.add(head, next) {
+            Some(added) => {
+                *told = shown.show(rt, added).0;
+                true
+            }
+            None => false,
+        }
     }
 
     /// Whether a publication of these routes is added and shown.
-    pub fn says(&mut self, alloc: Global, front: u64, said: &[Said<'_>]) -> bool {
+    pub fn says<R: Wait>(&mut self, rt: &R, alloc: Global, front: u64, said: &[Said<'_>]) -> bool {
         match topology_of(alloc, said) {
-            Some(topology) => self.publishes(alloc, front, &topology),
+            Some(topology) => self.publishes(rt, alloc, front, &topology),
             None => false,
         }
     }

@@ -1,4 +1,4 @@
-//! As many routes as a topology may have, and as many others in their stead, until places are short.
+//! As many routes as a topology may have, and as many others in their stead.
 ghost use Rattle.std.specs.Prelude.{◌≡◌};
 
 use crate::acts::fails;
@@ -6,7 +6,7 @@ use crate::said::{Said, add_table};
 use crate::scene::Scene;
 use mt_model::{MAX_KEYSPACES, MAX_RULES, TopologyFault};
 use mt_names::{KeyspaceName, RuleKey, RuleTarget, TableName, TabletType};
-use mt_routes::{Front, MAX_TABLES, Naming, Opened, Router};
+use mt_routes::{Front, Naming, Opened, Router};
 use mt_topology::Topology;
 use std::alloc::Global;
 use std::marker::Brand;
@@ -127,40 +127,41 @@ fn are_gone<J: Naming>(router: &mut Router<J>, names: &[&str], front: u64) -> bo
     true
 }
 
+/// How many tables there may be, in all keyspaces together.
+const MAX_TABLES: usize = 8192;
+
 /// As many names as there may be.
 const ALL: usize = MAX_RULES + MAX_TABLES;
 
-/// The word of the names of a publication, how many have rules, how many there are, and some that are gone. Views have places for twice as
-/// many rules and tables as there may be, so the third one finds none free.
+/// The word of the names of a publication, how many have rules, how many there are, and some that are gone.
 static SIZES: [(&str, usize, usize, &[&str]); 3] = [
     ("a", MAX_RULES, ALL, &["x"]),
     ("b", MAX_RULES, ALL, &["a0", "a4095", "a4096", "a12287"]),
     ("c", 1000, 3000, &["a0", "b0", "b4095", "b4096", "b12287"]),
 ];
 
-/// Whether these names are published, and lead where they should, and those that are gone lead nowhere.
-fn are_published<J: Naming, R: Wait + Drop + Copy>(
+/// Whether these names are published, and lead where they should.
+fn are_published<J: Naming, R: Wait>(
+    rt: &R,
     alloc: Global,
-    scene: &mut Scene<J, R>,
+    scene: &mut Scene<J>,
     router: &mut Router<J>,
     many: Many<'_>,
-    gone: &[&str],
     front: u64,
 ) -> bool {
     match many_routes(alloc, many) {
         Some(topology) => {
-            scene.publishes(alloc, front, &topology)
-                && are_led(alloc, router, many, front)
-                && are_gone(router, gone, front)
+            scene.publishes(rt, alloc, front, &topology) && are_led(alloc, router, many, front)
         }
         None => false,
     }
 }
 
 /// How many publications go so one after the other, up to the first that doesn't.
-fn played<J: Naming, R: Wait + Drop + Copy>(
+fn played<J: Naming, R: Wait>(
+    rt: &R,
     alloc: Global,
-    scene: &mut Scene<J, R>,
+    scene: &mut Scene<J>,
     router: &mut Router<J>,
 ) -> usize {
     for (index, (word, rules, names, gone)) in SIZES.iter().enumerate() {
@@ -169,7 +170,10 @@ fn played<J: Naming, R: Wait + Drop + Copy>(
             rules: *rules,
             names: *names,
         };
-        if !are_published(alloc, scene, router, many, *gone, index as u64) {
+        let front = index as u64;
+        if !are_published(rt, alloc, scene, router, many, front)
+            || !are_gone(router, *gone, front)
+        {
             return index;
         }
     }
@@ -177,30 +181,27 @@ fn played<J: Naming, R: Wait + Drop + Copy>(
 }
 
 /// How many go so to a new router.
-fn plays_at<J: Naming, R: Wait + Drop + Copy>(
-    alloc: Global,
-    scene: &mut Scene<J, R>,
-) -> Option<usize> {
+fn plays_at<J: Naming, R: Wait>(rt: &R, alloc: Global, scene: &mut Scene<J>) -> Option<usize> {
     match scene.router() {
-        Ok(mut router) => Some(played(alloc, scene, &mut router)),
+        Ok(mut router) => Some(played(rt, alloc, scene, &mut router)),
         Err(_) => None,
     }
 }
 
 /// How many go so at a new list.
-fn plays<J: Naming, R: Wait + Drop + Copy>(alloc: Global, rt: R, opened: Opened) -> Option<usize>
+fn plays<J: Naming, R: Wait>(rt: &R, alloc: Global, opened: Opened) -> Option<usize>
     requires { opened.seen.book ≡ J.book }
 {
-    let made: Option<Scene<J, R>> = Scene::of(alloc, rt, opened, 0, &[Said::Rule("x", "a.t")]);
+    let made: Option<Scene<J>> = Scene::of(alloc, opened, 0, &[Said::Rule("x", "a.t")]);
     match made {
-        Some(mut scene) => plays_at(alloc, &mut scene),
+        Some(mut scene) => plays_at(rt, alloc, &mut scene),
         None => None,
     }
 }
 
 #[test]
 fn many_names_are_led(rt: HostRuntime) -> Result<(), Fail> {
-    let played = plays::<Brand, _>(rt.alloc(), &rt, Opened::new());
+    let played = plays::<Brand, _>(&rt, rt.alloc(), Opened::new());
     assert_eq!(rt; played, Some(SIZES.len()));
     Ok(())
 }

@@ -5,7 +5,7 @@ use crate::scene::Scene;
 use crate::sizes::{Many, many_keys, many_routes};
 use mt_model::MAX_RULES;
 use mt_names::{RuleKey, TabletType};
-use mt_routes::{Naming, Opened, Places, Router};
+use mt_routes::{Naming, Opened, Places, Router, routes_of_a_topology_say_each_of_themselves};
 use std::alloc::Global;
 use std::env::VarError;
 use std::marker::Brand;
@@ -45,11 +45,7 @@ fn found_by<R: Wait>(rt: &R, places: &Mutex<Places>, keys: &[RuleKey], many: u64
 }
 
 /// So many routers of a list.
-fn routers_of<J: Naming, R: Wait + Drop + Copy>(
-    alloc: Global,
-    scene: &Scene<J, R>,
-    count: u64,
-) -> Option<Vec<Router<J>>> {
+fn routers_of<J: Naming>(alloc: Global, scene: &Scene<J>, count: u64) -> Option<Vec<Router<J>>> {
     let mut routers = Vec::new(alloc);
     for _ in 0..count {
         routers.push(scene.router().ok()?).ok()?;
@@ -74,7 +70,7 @@ fn are_led<J: Naming + Send + Sync, R: Threads + Wait + Sync>(
 fn are_routed_at<J: Naming + Send + Sync, R: Threads + Wait + Sync>(
     rt: &R,
     alloc: Global,
-    scene: &Scene<J, &R>,
+    scene: &Scene<J>,
     readers: u64,
     many: u64,
 ) -> bool {
@@ -100,7 +96,7 @@ fn are_routed<J: Naming + Send + Sync, R: Threads + Wait + Sync>(
     let Some(first) = many_routes(alloc, RULES) else {
         return false;
     };
-    let made: Option<Scene<J, &R>> = Scene::open(alloc, rt, opened, 0, &first);
+    let made: Option<Scene<J>> = Scene::open(alloc, opened, 0, &first);
     match made {
         Some(scene) => are_routed_at(rt, alloc, &scene, readers, many),
         None => false,
@@ -109,12 +105,11 @@ fn are_routed<J: Naming + Send + Sync, R: Threads + Wait + Sync>(
 
 /// The places of as many rules as there may be.
 fn many_places(alloc: Global) -> Option<Places> {
-    let routes = many_routes(alloc, RULES)?.routes(alloc).ok()?;
-    let mut places = Places::new(alloc).ok()?;
-    for route in routes.iter() {
-        places.write(route);
-    }
-    Some(places)
+    let topology = many_routes(alloc, RULES)?;
+    topology.facts();
+    routes_of_a_topology_say_each_of_themselves();
+    let routes = topology.routes(alloc).ok()?;
+    Places::of(alloc, &routes).ok()
 }
 
 /// Whether all look-ups behind a lock lead somewhere, so many in each of so many threads.

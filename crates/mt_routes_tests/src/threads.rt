@@ -1,11 +1,11 @@
 //! Routers in four threads while a fifth publishes.
 ghost use Rattle.std.specs.Prelude.{◌≡◌};
 
-use crate::acts::leads;
+use crate::acts::{leads, learns};
 use crate::said::Said;
 use crate::scene::Scene;
 use mt_names::{RuleKey, RuleTarget, TabletType};
-use mt_routes::{Front, Naming, Opened, Router, Told};
+use mt_routes::{Front, Naming, Opened, Router};
 use std::alloc::Global;
 use std::marker::Brand;
 use std::sync::Wait;
@@ -86,9 +86,9 @@ fn reads_on<J: Naming>(mut router: Router<J>) -> bool {
 }
 
 /// Whether each publication is added and shown.
-fn publishes_on<J: Naming, R: Wait + Drop + Copy>(alloc: Global, scene: &mut Scene<J, R>) -> bool {
+fn publishes_on<J: Naming, R: Wait>(rt: &R, alloc: Global, scene: &mut Scene<J>) -> bool {
     for front in 1..=MANY {
-        if !scene.says(alloc, front, &said_at(front)) {
+        if !scene.says(rt, alloc, front, &said_at(front)) {
             return false;
         }
     }
@@ -96,9 +96,7 @@ fn publishes_on<J: Naming, R: Wait + Drop + Copy>(alloc: Global, scene: &mut Sce
 }
 
 /// Two routers of a list.
-fn two_routers<J: Naming, R: Wait + Drop + Copy>(
-    scene: &Scene<J, R>,
-) -> Option<(Router<J>, Router<J>)> {
+fn two_routers<J: Naming>(scene: &Scene<J>) -> Option<(Router<J>, Router<J>)> {
     let Ok(one) = scene.router() else {
         return None;
     };
@@ -121,7 +119,7 @@ fn both_read_on<J: Naming + Send + Sync, R: Threads + Wait + Sync>(
 fn go_on<J: Naming + Send + Sync, R: Threads + Wait + Sync>(
     rt: &R,
     alloc: Global,
-    scene: &mut Scene<J, &R>,
+    scene: &mut Scene<J>,
     two: (Router<J>, Router<J>),
     two_more: (Router<J>, Router<J>),
 ) -> bool {
@@ -132,7 +130,7 @@ fn go_on<J: Naming + Send + Sync, R: Threads + Wait + Sync>(
             join(
                 rt,
                 move || both_read_on(rt, two_more),
-                move || publishes_on(alloc, scene),
+                move || publishes_on(rt, alloc, scene),
             )
         },
     );
@@ -140,9 +138,9 @@ fn go_on<J: Naming + Send + Sync, R: Threads + Wait + Sync>(
 }
 
 /// Whether a router answers by the last publication when it learns it.
-fn learns_the_last<J: Naming>(mut router: Router<J>, told: Told<J>) -> bool {
-    router.learn(told);
-    leads(&mut router, "x", TabletType::Replica, target_at(MANY), MANY)
+fn learns_the_last<J: Naming>(mut router: Router<J>, scene: &Scene<J>) -> bool {
+    learns(scene, &mut router)
+        && leads(&mut router, "x", TabletType::Replica, target_at(MANY), MANY)
         && leads(&mut router, "u", TabletType::Replica, holder_at(MANY), MANY)
 }
 
@@ -150,7 +148,7 @@ fn learns_the_last<J: Naming>(mut router: Router<J>, told: Told<J>) -> bool {
 fn four_go_on<J: Naming + Send + Sync, R: Threads + Wait + Sync>(
     rt: &R,
     alloc: Global,
-    scene: &mut Scene<J, &R>,
+    scene: &mut Scene<J>,
 ) -> bool {
     let Some(two) = two_routers(scene) else {
         return false;
@@ -165,10 +163,10 @@ fn four_go_on<J: Naming + Send + Sync, R: Threads + Wait + Sync>(
 fn all_go_on_at<J: Naming + Send + Sync, R: Threads + Wait + Sync>(
     rt: &R,
     alloc: Global,
-    scene: &mut Scene<J, &R>,
+    scene: &mut Scene<J>,
 ) -> bool {
     match scene.router() {
-        Ok(after) => four_go_on(rt, alloc, scene) && learns_the_last(after, scene.told()),
+        Ok(after) => four_go_on(rt, alloc, scene) && learns_the_last(after, scene),
         Err(_) => false,
     }
 }
@@ -181,7 +179,7 @@ fn all_go_on<J: Naming + Send + Sync, R: Threads + Wait + Sync>(
 ) -> bool
     requires { opened.seen.book ≡ J.book }
 {
-    let made: Option<Scene<J, &R>> = Scene::of(alloc, rt, opened, 0, &said_at(0));
+    let made: Option<Scene<J>> = Scene::of(alloc, opened, 0, &said_at(0));
     match made {
         Some(mut scene) => all_go_on_at(rt, alloc, &mut scene),
         None => false,

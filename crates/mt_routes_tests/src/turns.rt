@@ -1,4 +1,4 @@
-//! Publications in turn, each of which takes away most of what the one before it said, so that places are left and taken again.
+//! Publications in turn, each of which takes away most of what the one before it said, so that keys stand, go and come back.
 ghost use Rattle.std.specs.Prelude.{◌≡◌};
 
 use crate::acts::{fails, leads};
@@ -128,15 +128,16 @@ pub fn is_as_in_turn<J: Naming>(router: &mut Router<J>, front: u64) -> bool {
 }
 
 /// How many of so many turns are published one after the other, and answered as they say, up to the first that isn't.
-fn played<J: Naming, R: Wait + Drop + Copy>(
+fn played<J: Naming, R: Wait>(
+    rt: &R,
     alloc: Global,
-    scene: &mut Scene<J, R>,
+    scene: &mut Scene<J>,
     router: &mut Router<J>,
     many: u64,
 ) -> u64 {
     for last in 0..many {
         let front = last + 1;
-        if !scene.says(alloc, front, turn_at(front).said) || !is_as_in_turn(router, front) {
+        if !scene.says(rt, alloc, front, turn_at(front).said) || !is_as_in_turn(router, front) {
             return last;
         }
     }
@@ -144,36 +145,32 @@ fn played<J: Naming, R: Wait + Drop + Copy>(
 }
 
 /// How many of them are, to a new router.
-fn plays_at<J: Naming, R: Wait + Drop + Copy>(
+fn plays_at<J: Naming, R: Wait>(
+    rt: &R,
     alloc: Global,
-    scene: &mut Scene<J, R>,
+    scene: &mut Scene<J>,
     many: u64,
 ) -> Option<u64> {
     match scene.router() {
-        Ok(mut router) => Some(played(alloc, scene, &mut router, many)),
+        Ok(mut router) => Some(played(rt, alloc, scene, &mut router, many)),
         Err(_) => None,
     }
 }
 
 /// How many of them are, at a new list.
-fn plays<J: Naming, R: Wait + Drop + Copy>(
-    alloc: Global,
-    rt: R,
-    opened: Opened,
-    many: u64,
-) -> Option<u64>
+fn plays<J: Naming, R: Wait>(rt: &R, alloc: Global, opened: Opened, many: u64) -> Option<u64>
     requires { opened.seen.book ≡ J.book }
 {
-    let made: Option<Scene<J, R>> = Scene::of(alloc, rt, opened, 0, turn_at(0).said);
+    let made: Option<Scene<J>> = Scene::of(alloc, opened, 0, turn_at(0).said);
     match made {
-        Some(mut scene) => plays_at(alloc, &mut scene, many),
+        Some(mut scene) => plays_at(rt, alloc, &mut scene, many),
         None => None,
     }
 }
 
 #[test]
 fn what_comes_back_leads_again(rt: HostRuntime) -> Result<(), Fail> {
-    let played = plays::<Brand, _>(rt.alloc(), &rt, Opened::new(), 40);
+    let played = plays::<Brand, _>(&rt, rt.alloc(), Opened::new(), 40);
     assert_eq!(rt; played, Some(40));
     Ok(())
 }

@@ -9,10 +9,10 @@ use mt_watch::Asks;
 use std::sync::Wait;
 
 /// Asks the desk as `Desk::ask` does, and comes through the gate before it and after it.
-pub(crate) fn ask<R: Wait, G: Gate, D: DeskName, W: Asks + Drop, H: Wait + Drop>(
+pub(crate) fn ask<R: Wait, G: Gate, D: DeskName, W: Asks + Drop>(
     rt: &R,
     gate: &G,
-    desk: &Desk<D, W, H>,
+    desk: &Desk<D, W>,
     pass: &mut Pass<D>,
     worker: u16,
     line: u64,

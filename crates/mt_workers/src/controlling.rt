@@ -39,10 +39,10 @@ fn none_open(answer: Answer) -> Result<Refusal, Refusal>
 }
 
 /// Goes on with the way that is open, until it ends.
-fn run<R: Wait, G: Gate, D: DeskName, W: Asks + Drop, H: Wait + Drop>(
+fn run<R: Wait, G: Gate, D: DeskName, W: Asks + Drop>(
     rt: &R,
     gate: &G,
-    desk: &Desk<D, W, H>,
+    desk: &Desk<D, W>,
     mut pass: Pass<D>,
     worker: u16,
     workflow: &WorkflowName,
@@ -82,10 +82,10 @@ fn run<R: Wait, G: Gate, D: DeskName, W: Asks + Drop, H: Wait + Drop>(
 /// and the answer is `Abandoned`; behind it the way stays open, and the answer is `Stopped`. It ends with a refusal if the begin or a Show is
 /// refused, if a step or an undo is as `F7 NoWorkflow` or `F14 NothingUnderWay`, or if an undo is for any other cause but `F25 Stale` with a
 /// try left. If the desk refuses a call it ends with its fault. It gives its pass back.
-pub fn controller<R: Wait, G: Gate, D: DeskName, W: Asks + Drop, H: Wait + Drop>(
+pub fn controller<R: Wait, G: Gate, D: DeskName, W: Asks + Drop>(
     rt: &R,
     gate: &G,
-    desk: &Desk<D, W, H>,
+    desk: &Desk<D, W>,
     mut pass: Pass<D>,
     worker: u16,
     workflow: &WorkflowName,

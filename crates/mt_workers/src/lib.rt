@@ -17,6 +17,7 @@ mod turn;
 
 pub use collector::Collector;
 pub use controlling::controller;
+pub use crossbeam_channel::{Receiver, Sender, unbounded};
 pub use fault::{CollectFault, ControlFault};
 pub use gate::{Gate, NoGate, Place};
 pub use laws::a_controller_asks_for_its_workflow_alone;

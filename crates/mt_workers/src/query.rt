@@ -9,7 +9,7 @@ use crate::{Gate, Line, Message};
 use crossbeam_channel::Sender;
 use mt_desk::{Answer, Desk, DeskName, Pass};
 use mt_event::{Reason, Refusal};
-use mt_routes::{RouteFault, Router};
+use mt_routes::Router;
 use mt_watch::Asks;
 use std::sync::Wait;
 
@@ -24,9 +24,9 @@ fn is_denied(answer: &Answer) -> bool
 }
 
 /// Learns what the desk tells of its routes, before each try but the first. Answers whether the desk told it.
-fn learn<R: Wait, D: DeskName, W: Asks + Drop, H: Wait + Drop>(
+fn learn<R: Wait, D: DeskName, W: Asks + Drop>(
     rt: &R,
-    desk: &Desk<D, W, H>,
+    desk: &Desk<D, W>,
     router: &mut Router<D>,
     tried: u8,
 ) -> bool
@@ -44,11 +44,11 @@ fn learn<R: Wait, D: DeskName, W: Asks + Drop, H: Wait + Drop>(
     }
 }
 
-/// Tries a line, at most 64 times: what `query_worker` sends of it, or nothing, where the desk refused a call or shows no routes.
-fn ask_line<R: Wait, G: Gate, D: DeskName, W: Asks + Drop, H: Wait + Drop>(
+/// Tries a line, at most 64 times: what `query_worker` sends of it, or nothing, where the desk refused a call.
+fn ask_line<R: Wait, G: Gate, D: DeskName, W: Asks + Drop>(
     rt: &R,
     gate: &G,
-    desk: &Desk<D, W, H>,
+    desk: &Desk<D, W>,
     router: &mut Router<D>,
     pass: &mut Pass<D>,
     worker: u16,
@@ -65,10 +65,7 @@ fn ask_line<R: Wait, G: Gate, D: DeskName, W: Asks + Drop, H: Wait + Drop>(
         }
         let target = match router.route(line.key(), line.type_of()) {
             Ok((target, _front)) => target,
-            Err(RouteFault::Refused(_why, _front)) => return Some(Err(Refusal::Other(
-                Reason::NoTable,
-            ))),
-            Err(RouteFault::Closed) => return None,
+            Err((_why, _front)) => return Some(Err(Refusal::Other(Reason::NoTable))),
         };
         let event = line.event_at(target);
         let answer = match ask(rt, gate, desk, pass, worker, number, event) {
@@ -83,10 +80,10 @@ fn ask_line<R: Wait, G: Gate, D: DeskName, W: Asks + Drop, H: Wait + Drop>(
 }
 
 /// Tries one line after the other, and sends what comes of each. Answers how many were sent.
-fn ask_lines<R: Wait, G: Gate, D: DeskName, W: Asks + Drop, H: Wait + Drop>(
+fn ask_lines<R: Wait, G: Gate, D: DeskName, W: Asks + Drop>(
     rt: &R,
     gate: &G,
-    desk: &Desk<D, W, H>,
+    desk: &Desk<D, W>,
     router: &mut Router<D>,
     pass: &mut Pass<D>,
     worker: u16,
@@ -115,15 +112,15 @@ fn ask_lines<R: Wait, G: Gate, D: DeskName, W: Asks + Drop, H: Wait + Drop>(
     sent
 }
 
-/// Asks for some lines in their order, each at the table that its name leads to, which it looks up without a lock. Where the answer is
+/// Asks for some lines in their order, each at the table that its name leads to, which it looks up without waiting. Where the answer is
 /// `F3 Denied`, the table has moved on: it has the desk tell of its routes, learns them, and tries again, at most 64 times a line. It sends the
 /// last answer to each line, and `F2 NoTable` of a line whose name leads nowhere, or to no single table. It ends early only where the desk
-/// refuses a call or shows no routes any more, or where the message can't be sent. It gives its pass back, and the number of the lines that were sent. (Vitess: a client at a
-/// vtgate)
-pub fn query_worker<R: Wait, G: Gate, D: DeskName, W: Asks + Drop, H: Wait + Drop>(
+/// refuses a call, or where the message can't be sent. It gives its pass back, and the number of the lines that were sent. (Vitess: a client
+/// at a vtgate)
+pub fn query_worker<R: Wait, G: Gate, D: DeskName, W: Asks + Drop>(
     rt: &R,
     gate: &G,
-    desk: &Desk<D, W, H>,
+    desk: &Desk<D, W>,
     mut router: Router<D>,
     mut pass: Pass<D>,
     worker: u16,

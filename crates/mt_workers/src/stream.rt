@@ -39,10 +39,10 @@ fn one_if_taken(answer: &Answer) -> u64
 /// position 0, and then where the last answer there says that the stream is. A refusal takes a turn too; `F25 Stale` says where the stream is.
 /// It gives its pass back, and the number of advances that were taken. It ends early only where the desk refuses a call, with its `DeskFault`
 /// told by nobody. (Vitess: VReplication streams, which go on by themselves)
-pub fn stream_worker<R: Wait, G: Gate, D: DeskName, W: Asks + Drop, H: Wait + Drop>(
+pub fn stream_worker<R: Wait, G: Gate, D: DeskName, W: Asks + Drop>(
     rt: &R,
     gate: &G,
-    desk: &Desk<D, W, H>,
+    desk: &Desk<D, W>,
     mut pass: Pass<D>,
     worker: u16,
     workflow: &WorkflowName,

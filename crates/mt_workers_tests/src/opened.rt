@@ -163,7 +163,7 @@ fn watchers_of(alloc: Global) -> Option<Watchers> {
 fn goes<D: DeskName + Send + Sync, W: Asks + Drop + Send, R: Threads + Wait + Sync>(
     rt: &R,
     alloc: Global,
-    desk: &Desk<D, W, &R>,
+    desk: &Desk<D, W>,
     trial: Trial,
 ) -> bool {
     match trial {
@@ -188,7 +188,7 @@ fn at_a_desk<D: DeskName + Send + Sync, W: Asks + Drop + Send, R: Threads + Wait
     requires scopes { W.scopes site.watchers ≡ D.scopes }
     requires stood { IsCoreWith D.scopes site.core }
 {
-    let opened: Result<Desk<D, W, &R>, DeskFault> = Desk::open(alloc, rt, blank, opened, site);
+    let opened: Result<Desk<D, W>, DeskFault> = Desk::open(alloc, rt, blank, opened, site);
     let Ok(desk) = opened else {
         return false;
     };

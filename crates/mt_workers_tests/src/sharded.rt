@@ -49,9 +49,9 @@ fn read_of(keyspace: &str, key: u64) -> Result<Event, NameFault> {
 }
 
 /// Whether a client with a pass of its own writes a row of each shard.
-fn are_written<R: Wait, D: DeskName, W: Asks + Drop, H: Wait + Drop>(
+fn are_written<R: Wait, D: DeskName, W: Asks + Drop>(
     rt: &R,
-    desk: &Desk<D, W, H>,
+    desk: &Desk<D, W>,
     client: u16,
     keyspace: &str,
     keys: [u64; 2],
@@ -67,9 +67,9 @@ fn are_written<R: Wait, D: DeskName, W: Asks + Drop, H: Wait + Drop>(
 }
 
 /// Whether an event is done.
-fn is_done<R: Wait, D: DeskName, W: Asks + Drop, H: Wait + Drop>(
+fn is_done<R: Wait, D: DeskName, W: Asks + Drop>(
     rt: &R,
-    desk: &Desk<D, W, H>,
+    desk: &Desk<D, W>,
     pass: &mut Pass<D>,
     event: Result<Event, NameFault>,
 ) -> bool {
@@ -88,9 +88,9 @@ fn stands(lane: Option<&ShownLane>, position: u64) -> bool {
 }
 
 /// Whether the forward streams of both shards stand there, as Show tells.
-fn are_at<R: Wait, D: DeskName, W: Asks + Drop, H: Wait + Drop>(
+fn are_at<R: Wait, D: DeskName, W: Asks + Drop>(
     rt: &R,
-    desk: &Desk<D, W, H>,
+    desk: &Desk<D, W>,
     pass: &mut Pass<D>,
     positions: [u64; 2],
 ) -> bool {
@@ -106,9 +106,9 @@ fn are_at<R: Wait, D: DeskName, W: Asks + Drop, H: Wait + Drop>(
 }
 
 /// Whether a stream worker over both shards takes an advance by one entry in each of its turns, and the streams stand there then.
-fn are_fed<R: Wait, D: DeskName, W: Asks + Drop, H: Wait + Drop>(
+fn are_fed<R: Wait, D: DeskName, W: Asks + Drop>(
     rt: &R,
-    desk: &Desk<D, W, H>,
+    desk: &Desk<D, W>,
     turns: u64,
     positions: [u64; 2],
 ) -> bool {
@@ -133,9 +133,9 @@ fn are_fed<R: Wait, D: DeskName, W: Asks + Drop, H: Wait + Drop>(
 }
 
 /// Whether a controller for all types that may try a step twice is done, and just these types are switched then.
-fn is_switched<R: Wait, D: DeskName, W: Asks + Drop, H: Wait + Drop>(
+fn is_switched<R: Wait, D: DeskName, W: Asks + Drop>(
     rt: &R,
-    desk: &Desk<D, W, H>,
+    desk: &Desk<D, W>,
     client: u16,
     back: bool,
     switched: TypeSet,
@@ -150,10 +150,7 @@ fn is_switched<R: Wait, D: DeskName, W: Asks + Drop, H: Wait + Drop>(
 }
 
 /// Switches all types, while others ask. Answers the pass, if that is done.
-fn switches<R: Wait, D: DeskName, W: Asks + Drop, H: Wait + Drop>(
-    rt: &R,
-    desk: &Desk<D, W, H>,
-) -> Option<Pass<D>> {
+fn switches<R: Wait, D: DeskName, W: Asks + Drop>(rt: &R, desk: &Desk<D, W>) -> Option<Pass<D>> {
     let (Some(name), Ok(pass)) = (workflow(), desk.pass(rt, 1)) else {
         return None;
     };
@@ -164,10 +161,7 @@ fn switches<R: Wait, D: DeskName, W: Asks + Drop, H: Wait + Drop>(
 }
 
 /// Advances the forward streams of both shards, while others ask.
-fn feeds<R: Wait, D: DeskName, W: Asks + Drop, H: Wait + Drop>(
-    rt: &R,
-    desk: &Desk<D, W, H>,
-) -> Option<Pass<D>> {
+fn feeds<R: Wait, D: DeskName, W: Asks + Drop>(rt: &R, desk: &Desk<D, W>) -> Option<Pass<D>> {
     let (Some(name), Ok(pass)) = (workflow(), desk.pass(rt, 2)) else {
         return None;
     };
@@ -187,9 +181,9 @@ fn acknowledged<D: DeskName>(pass: &Pass<D>) -> u64 {
 }
 
 /// How many rows of two clients are found at the target.
-fn rows_found<R: Wait, D: DeskName, W: Asks + Drop, H: Wait + Drop>(
+fn rows_found<R: Wait, D: DeskName, W: Asks + Drop>(
     rt: &R,
-    desk: &Desk<D, W, H>,
+    desk: &Desk<D, W>,
     pass: &mut Pass<D>,
 ) -> u64 {
     let mut count: u64 = 0;
@@ -206,15 +200,10 @@ fn rows_found<R: Wait, D: DeskName, W: Asks + Drop, H: Wait + Drop>(
 }
 
 /// A controller, a stream worker and two clients that insert, at once.
-fn all_at_once<
-    R: Threads + Wait + Sync,
-    D: DeskName + Send + Sync,
-    W: Asks + Drop + Send,
-    H: Wait + Drop + Send,
->(
+fn all_at_once<R: Threads + Wait + Sync, D: DeskName + Send + Sync, W: Asks + Drop + Send>(
     rt: &R,
     alloc: Global,
-    desk: &Desk<D, W, H>,
+    desk: &Desk<D, W>,
     told: &Sender<Message>,
 ) -> (
     (Option<Pass<D>>, Option<Pass<D>>),
@@ -234,12 +223,11 @@ fn all_at_once<
 }
 
 /// Whether all workers end as they should, as many rows are found at the target then as writes were acknowledged, and all passes are gathered.
-fn is_raced<
-    R: Threads + Wait + Sync,
-    D: DeskName + Send + Sync,
-    W: Asks + Drop + Send,
-    H: Wait + Drop + Send,
->(rt: &R, alloc: Global, desk: &Desk<D, W, H>) -> bool {
+fn is_raced<R: Threads + Wait + Sync, D: DeskName + Send + Sync, W: Asks + Drop + Send>(
+    rt: &R,
+    alloc: Global,
+    desk: &Desk<D, W>,
+) -> bool {
     let Ok((sender, _receiver)) = unbounded(alloc) else {
         return false;
     };
@@ -256,12 +244,12 @@ fn is_raced<
 }
 
 /// Whether workers over two shards do what they should.
-pub fn over_shards<
-    R: Threads + Wait + Sync,
-    D: DeskName + Send + Sync,
-    W: Asks + Drop + Send,
-    H: Wait + Drop + Send,
->(rt: &R, alloc: Global, desk: &Desk<D, W, H>, sharded: Sharded) -> bool {
+pub fn over_shards<R: Threads + Wait + Sync, D: DeskName + Send + Sync, W: Asks + Drop + Send>(
+    rt: &R,
+    alloc: Global,
+    desk: &Desk<D, W>,
+    sharded: Sharded,
+) -> bool {
     match sharded {
         Sharded::Fed(turns, positions) => {
             are_written(rt, desk, 3, "commerce", [1, MIDDLE]) && are_fed(rt, desk, turns, positions)

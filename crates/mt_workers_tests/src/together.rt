@@ -37,10 +37,10 @@ fn inserts(alloc: Global, client: u16) -> Option<Vec<Line>> {
 }
 
 /// A client inserts its rows. Answers its pass, if all of its lines were sent.
-pub fn writes<R: Wait, D: DeskName, W: Asks + Drop, H: Wait + Drop>(
+pub fn writes<R: Wait, D: DeskName, W: Asks + Drop>(
     rt: &R,
     alloc: Global,
-    desk: &Desk<D, W, H>,
+    desk: &Desk<D, W>,
     sender: &Sender<Message>,
     client: u16,
 ) -> Option<Pass<D>> {
@@ -56,9 +56,9 @@ pub fn writes<R: Wait, D: DeskName, W: Asks + Drop, H: Wait + Drop>(
 
 /// A controller switches all types. Answers its pass, and whether it did, if it ended as one of two may: it did; the other one was first, or
 /// has written the journal; or the switch was given up, since the other one had stopped the stream that this one was to advance.
-fn switches<R: Wait, D: DeskName, W: Asks + Drop, H: Wait + Drop>(
+fn switches<R: Wait, D: DeskName, W: Asks + Drop>(
     rt: &R,
-    desk: &Desk<D, W, H>,
+    desk: &Desk<D, W>,
     pass: Pass<D>,
 ) -> Option<(Pass<D>, bool)> {
     let name = workflow()?;
@@ -79,9 +79,9 @@ fn switches<R: Wait, D: DeskName, W: Asks + Drop, H: Wait + Drop>(
 }
 
 /// The way that is open, if one is, as Show tells it.
-fn way_shown<R: Wait, D: DeskName, W: Asks + Drop, H: Wait + Drop>(
+fn way_shown<R: Wait, D: DeskName, W: Asks + Drop>(
     rt: &R,
-    desk: &Desk<D, W, H>,
+    desk: &Desk<D, W>,
     pass: &mut Pass<D>,
 ) -> Option<Option<Way>> {
     let workflow = workflow()?;
@@ -92,9 +92,9 @@ fn way_shown<R: Wait, D: DeskName, W: Asks + Drop, H: Wait + Drop>(
 }
 
 /// Whether an undo is done, or refused since the other controller was first: it took a step, closed the way, or wrote the journal.
-fn is_undone<R: Wait, D: DeskName, W: Asks + Drop, H: Wait + Drop>(
+fn is_undone<R: Wait, D: DeskName, W: Asks + Drop>(
     rt: &R,
-    desk: &Desk<D, W, H>,
+    desk: &Desk<D, W>,
     pass: &mut Pass<D>,
     at: u64,
 ) -> bool {
@@ -112,9 +112,9 @@ fn is_undone<R: Wait, D: DeskName, W: Asks + Drop, H: Wait + Drop>(
 }
 
 /// Whether the last step of the way is undone, if one is open, or that is refused as it may be.
-fn undoes_one<R: Wait, D: DeskName, W: Asks + Drop, H: Wait + Drop>(
+fn undoes_one<R: Wait, D: DeskName, W: Asks + Drop>(
     rt: &R,
-    desk: &Desk<D, W, H>,
+    desk: &Desk<D, W>,
     pass: &mut Pass<D>,
 ) -> bool {
     match way_shown(rt, desk, pass) {
@@ -125,9 +125,9 @@ fn undoes_one<R: Wait, D: DeskName, W: Asks + Drop, H: Wait + Drop>(
 }
 
 /// Whether a controller undoes what another one does, step by step, and each undo is answered as it may be.
-fn undoes<R: Wait, D: DeskName, W: Asks + Drop, H: Wait + Drop>(
+fn undoes<R: Wait, D: DeskName, W: Asks + Drop>(
     rt: &R,
-    desk: &Desk<D, W, H>,
+    desk: &Desk<D, W>,
     pass: &mut Pass<D>,
 ) -> bool {
     for _ in 0..LOOKS {
@@ -139,9 +139,9 @@ fn undoes<R: Wait, D: DeskName, W: Asks + Drop, H: Wait + Drop>(
 }
 
 /// Undoes with a new pass of a client. Answers the pass, and that it switched nothing.
-fn undoes_as<R: Wait, D: DeskName, W: Asks + Drop, H: Wait + Drop>(
+fn undoes_as<R: Wait, D: DeskName, W: Asks + Drop>(
     rt: &R,
-    desk: &Desk<D, W, H>,
+    desk: &Desk<D, W>,
     client: u16,
 ) -> Option<(Pass<D>, bool)> {
     let Ok(mut pass) = desk.pass(rt, client) else {
@@ -155,9 +155,9 @@ fn undoes_as<R: Wait, D: DeskName, W: Asks + Drop, H: Wait + Drop>(
 }
 
 /// Switches with a new pass of a client.
-fn switches_as<R: Wait, D: DeskName, W: Asks + Drop, H: Wait + Drop>(
+fn switches_as<R: Wait, D: DeskName, W: Asks + Drop>(
     rt: &R,
-    desk: &Desk<D, W, H>,
+    desk: &Desk<D, W>,
     client: u16,
 ) -> Option<(Pass<D>, bool)> {
     match desk.pass(rt, client) {
@@ -167,9 +167,9 @@ fn switches_as<R: Wait, D: DeskName, W: Asks + Drop, H: Wait + Drop>(
 }
 
 /// The second controller, which may undo what the first does.
-fn switches_or_undoes<R: Wait, D: DeskName, W: Asks + Drop, H: Wait + Drop>(
+fn switches_or_undoes<R: Wait, D: DeskName, W: Asks + Drop>(
     rt: &R,
-    desk: &Desk<D, W, H>,
+    desk: &Desk<D, W>,
     is_undoing: bool,
 ) -> Option<(Pass<D>, bool)> {
     if is_undoing {
@@ -181,9 +181,9 @@ fn switches_or_undoes<R: Wait, D: DeskName, W: Asks + Drop, H: Wait + Drop>(
 
 /// Answers the pass if all is switched behind two controllers, of which one did it (`is_done`). If none did, nothing is switched and no way
 /// is open, and a controller that is alone switches all.
-fn is_switched_at_last<R: Wait, D: DeskName, W: Asks + Drop, H: Wait + Drop>(
+fn is_switched_at_last<R: Wait, D: DeskName, W: Asks + Drop>(
     rt: &R,
-    desk: &Desk<D, W, H>,
+    desk: &Desk<D, W>,
     mut pass: Pass<D>,
     is_done: bool,
 ) -> Option<Pass<D>> {
@@ -205,10 +205,10 @@ fn is_switched_at_last<R: Wait, D: DeskName, W: Asks + Drop, H: Wait + Drop>(
 }
 
 /// Whether four passes are gathered.
-pub fn are_gathered<R: Wait, D: DeskName, W: Asks + Drop, H: Wait + Drop>(
+pub fn are_gathered<R: Wait, D: DeskName, W: Asks + Drop>(
     rt: &R,
     alloc: Global,
-    desk: &Desk<D, W, H>,
+    desk: &Desk<D, W>,
     passes: [Pass<D>; 4],
 ) -> bool {
     match Vec::from_array(alloc, passes) {
@@ -218,15 +218,10 @@ pub fn are_gathered<R: Wait, D: DeskName, W: Asks + Drop, H: Wait + Drop>(
 }
 
 /// Two controllers, of which the second may undo what the first does, and two clients that insert, at once.
-fn all_at_once<
-    R: Threads + Wait + Sync,
-    D: DeskName + Send + Sync,
-    W: Asks + Drop + Send,
-    H: Wait + Drop + Send,
->(
+fn all_at_once<R: Threads + Wait + Sync, D: DeskName + Send + Sync, W: Asks + Drop + Send>(
     rt: &R,
     alloc: Global,
-    desk: &Desk<D, W, H>,
+    desk: &Desk<D, W>,
     told: &Sender<Message>,
     is_undoing: bool,
 ) -> (
@@ -252,12 +247,12 @@ fn all_at_once<
 
 /// Whether two controllers end while two clients write, of which the second may undo what the first does; whether all is switched at last, by
 /// one of them, and all passes are gathered.
-pub fn two_controllers<
-    R: Threads + Wait + Sync,
-    D: DeskName + Send + Sync,
-    W: Asks + Drop + Send,
-    H: Wait + Drop + Send,
->(rt: &R, alloc: Global, desk: &Desk<D, W, H>, is_undoing: bool) -> bool {
+pub fn two_controllers<R: Threads + Wait + Sync, D: DeskName + Send + Sync, W: Asks + Drop + Send>(
+    rt: &R,
+    alloc: Global,
+    desk: &Desk<D, W>,
+    is_undoing: bool,
+) -> bool {
     let Ok((sender, _receiver)) = unbounded(alloc) else {
         return false;
     };

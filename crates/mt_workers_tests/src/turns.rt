@@ -31,9 +31,9 @@ pub fn workflow() -> Option<WorkflowName> {
 }
 
 /// Whether an event is done.
-fn is_done<R: Wait, D: DeskName, W: Asks + Drop, H: Wait + Drop>(
+fn is_done<R: Wait, D: DeskName, W: Asks + Drop>(
     rt: &R,
-    desk: &Desk<D, W, H>,
+    desk: &Desk<D, W>,
     pass: &mut Pass<D>,
     event: Event,
 ) -> bool {
@@ -41,9 +41,9 @@ fn is_done<R: Wait, D: DeskName, W: Asks + Drop, H: Wait + Drop>(
 }
 
 /// Whether no way is open, and just these types are switched.
-pub fn is_at_rest<R: Wait, D: DeskName, W: Asks + Drop, H: Wait + Drop>(
+pub fn is_at_rest<R: Wait, D: DeskName, W: Asks + Drop>(
     rt: &R,
-    desk: &Desk<D, W, H>,
+    desk: &Desk<D, W>,
     pass: &mut Pass<D>,
     switched: TypeSet,
 ) -> bool {
@@ -62,9 +62,9 @@ fn switched_by(back: bool) -> TypeSet {
 }
 
 /// Whether a controller of a new client, for all types and with so many tries, ends so, and just these types are switched then.
-fn ends<R: Wait, D: DeskName, W: Asks + Drop, H: Wait + Drop>(
+fn ends<R: Wait, D: DeskName, W: Asks + Drop>(
     rt: &R,
-    desk: &Desk<D, W, H>,
+    desk: &Desk<D, W>,
     client: u16,
     (back, tries): (bool, u64),
     want: Driven,
@@ -83,11 +83,7 @@ fn ends<R: Wait, D: DeskName, W: Asks + Drop, H: Wait + Drop>(
 }
 
 /// Whether all is switched by a client, if a reversal is to begin.
-fn is_ready<R: Wait, D: DeskName, W: Asks + Drop, H: Wait + Drop>(
-    rt: &R,
-    desk: &Desk<D, W, H>,
-    back: bool,
-) -> bool {
+fn is_ready<R: Wait, D: DeskName, W: Asks + Drop>(rt: &R, desk: &Desk<D, W>, back: bool) -> bool {
     !back || ends(rt, desk, 3, (false, 64), Driven::Done, TypeSet::ALL)
 }
 
@@ -103,9 +99,9 @@ fn begin_of(back: bool) -> Option<Event> {
 }
 
 /// Whether an act of this number on the workflow is done: a step, or the undo of one.
-fn acts<R: Wait, D: DeskName, W: Asks + Drop, H: Wait + Drop>(
+fn acts<R: Wait, D: DeskName, W: Asks + Drop>(
     rt: &R,
-    desk: &Desk<D, W, H>,
+    desk: &Desk<D, W>,
     pass: &mut Pass<D>,
     at: u64,
     is_undo: bool,
@@ -118,9 +114,9 @@ fn acts<R: Wait, D: DeskName, W: Asks + Drop, H: Wait + Drop>(
 }
 
 /// Whether so many steps are done.
-fn steps_on<R: Wait, D: DeskName, W: Asks + Drop, H: Wait + Drop>(
+fn steps_on<R: Wait, D: DeskName, W: Asks + Drop>(
     rt: &R,
-    desk: &Desk<D, W, H>,
+    desk: &Desk<D, W>,
     pass: &mut Pass<D>,
     steps: u64,
 ) -> bool {
@@ -133,9 +129,9 @@ fn steps_on<R: Wait, D: DeskName, W: Asks + Drop, H: Wait + Drop>(
 }
 
 /// Whether a way begins, and so many of its steps are done.
-fn begins<R: Wait, D: DeskName, W: Asks + Drop, H: Wait + Drop>(
+fn begins<R: Wait, D: DeskName, W: Asks + Drop>(
     rt: &R,
-    desk: &Desk<D, W, H>,
+    desk: &Desk<D, W>,
     pass: &mut Pass<D>,
     back: bool,
     steps: u64,
@@ -147,9 +143,9 @@ fn begins<R: Wait, D: DeskName, W: Asks + Drop, H: Wait + Drop>(
 }
 
 /// Whether all steps that are done are undone, the last one first; of none, the begin is.
-fn undoes<R: Wait, D: DeskName, W: Asks + Drop, H: Wait + Drop>(
+fn undoes<R: Wait, D: DeskName, W: Asks + Drop>(
     rt: &R,
-    desk: &Desk<D, W, H>,
+    desk: &Desk<D, W>,
     pass: &mut Pass<D>,
     steps: u64,
 ) -> bool {
@@ -162,9 +158,9 @@ fn undoes<R: Wait, D: DeskName, W: Asks + Drop, H: Wait + Drop>(
 }
 
 /// Whether a client writes a row at the source.
-fn writes<R: Wait, D: DeskName, W: Asks + Drop, H: Wait + Drop>(
+fn writes<R: Wait, D: DeskName, W: Asks + Drop>(
     rt: &R,
-    desk: &Desk<D, W, H>,
+    desk: &Desk<D, W>,
     pass: &mut Pass<D>,
 ) -> bool {
     let (Ok(keyspace), Ok(table)) = (KeyspaceName::parse("commerce"), TableName::parse("corder"))
@@ -181,9 +177,9 @@ fn writes<R: Wait, D: DeskName, W: Asks + Drop, H: Wait + Drop>(
 }
 
 /// Whether client 1 begins a way and does so many of its steps, and then writes a row if it is to.
-fn is_begun<R: Wait, D: DeskName, W: Asks + Drop, H: Wait + Drop>(
+fn is_begun<R: Wait, D: DeskName, W: Asks + Drop>(
     rt: &R,
-    desk: &Desk<D, W, H>,
+    desk: &Desk<D, W>,
     (back, steps): (bool, u64),
     is_writer: bool,
 ) -> bool {
@@ -197,9 +193,9 @@ fn is_begun<R: Wait, D: DeskName, W: Asks + Drop, H: Wait + Drop>(
 }
 
 /// Whether client 2 undoes so many steps, and just these types are switched then.
-fn is_undone<R: Wait, D: DeskName, W: Asks + Drop, H: Wait + Drop>(
+fn is_undone<R: Wait, D: DeskName, W: Asks + Drop>(
     rt: &R,
-    desk: &Desk<D, W, H>,
+    desk: &Desk<D, W>,
     steps: u64,
     switched: TypeSet,
 ) -> bool {
@@ -212,10 +208,7 @@ fn is_undone<R: Wait, D: DeskName, W: Asks + Drop, H: Wait + Drop>(
 }
 
 /// Whether a stream worker with two turns takes two advances.
-fn are_taken<R: Wait, D: DeskName, W: Asks + Drop, H: Wait + Drop>(
-    rt: &R,
-    desk: &Desk<D, W, H>,
-) -> bool {
+fn are_taken<R: Wait, D: DeskName, W: Asks + Drop>(rt: &R, desk: &Desk<D, W>) -> bool {
     let Some(name) = workflow() else {
         return false;
     };
@@ -228,9 +221,9 @@ fn are_taken<R: Wait, D: DeskName, W: Asks + Drop, H: Wait + Drop>(
 }
 
 /// Whether workers one after the other do what they should.
-pub fn in_turn<R: Wait, D: DeskName, W: Asks + Drop, H: Wait + Drop>(
+pub fn in_turn<R: Wait, D: DeskName, W: Asks + Drop>(
     rt: &R,
-    desk: &Desk<D, W, H>,
+    desk: &Desk<D, W>,
     turns: Turns,
 ) -> bool {
     let (done, not_level) = (

@@ -3,23 +3,22 @@ use Rattle.std.proofs.Common.{◌≡◌, ◌≢◌, ◌∙◌, true, false, Matc
 use Rattle.mt_desk.specs.Histories.{call}
 use Rattle.mt_event.specs.declared.reason.Reason.TheVariants as reason
 use Rattle.mt_event.specs.declared.refusal.Refusal.TheVariants as refusal
-use Rattle.mt_routes.specs.LookUp.{LastLeads, Routes}
+use Rattle.mt_routes.specs.LookUp.{LastLeads}
 use Rattle.mt_workers.specs.Queries.{IsTry, type_of}
 use Rattle.mt_workers.proofs.QueryLemmas.{answered_here, denied_again, denied_to_the_end, is_try, known_before, nowhere}
 use Rattle.mt_workers.proofs.query.ask_line.Goals as goal
 
-pub returns-in-Err-Refused-clause-tried : goal.returns-in-Err-Refused-clause-tried
-returns-in-Err-Refused-clause-tried g c =
+pub returns-in-Err-clause-tried : goal.returns-in-Err-clause-tried
+returns-in-Err-clause-tried g c =
     let known = c.args.router.now in
     let line = c.args.line.now in
-    let why = c.in-Err-Refused._why in
-    let front = c.in-Err-Refused._front.0 in
+    let why = c.in-Err._why in
+    let front = c.in-Err._front.0 in
     let now = c.route.new.self in
     nowhere known c.learn.new.router now line c.args.pass.now.calls.items c.loop-tried.pass.calls.items c.loop-tried.tried why front c.loop-tried.invariant.denied c.loop-tried-test.true
     (known_before known c.loop-tried.router c.learn.new.router c.loop-tried.invariant.grows c.learn.ensures) c.route.ensures.grows
     (subst (λ k. LastLeads now k (type_of line) front (Err why)) c.key.ensures
-    (subst (λ t. LastLeads now c.key.result.now t front (Err why)) c.type_of.ensures
-    (subst (λ fault. Routes now c.key.result.now c.type_of.result (Err fault)) c.in-Err-Refused.field-0-is c.in-Err-Refused.ensures.answer)))
+    (subst (λ t. LastLeads now c.key.result.now t front (Err why)) c.type_of.ensures c.in-Err.ensures.answer))
 
 pub returns-then-not-is_denied-clause-tried : goal.returns-then-not-is_denied-clause-tried
 returns-then-not-is_denied-clause-tried g c =

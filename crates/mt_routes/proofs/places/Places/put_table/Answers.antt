@@ -1,25 +1,18 @@
-use Rattle.std.proofs.Common.{◌≡◌, Some, sym, subst, ◌∙◌, rules}
-use Rattle.mt_routes.specs.Places.{AreNumbered, number_of}
-use Rattle.mt_routes.proofs.NumberLemmas.{below, numbered-more, numbered-put}
+-- No keyspace is twice at the table that is set.
+use Rattle.std.proofs.Common.{ap, subst, sym, ◌∙◌, OnOk, ◌≡◌}
+use Rattle.mt_names.specs.Names.{same_text}
+use Rattle.indexmap.specs.IndexMap.{insert_entry}
+use Rattle.mt_routes.specs.Places.{holders_of, with_holder}
+use Rattle.mt_routes.proofs.HolderLemmas.{written-distinct}
 use Rattle.mt_routes.proofs.places.Places.put_table.Goals as goal
 
 pub invariant_of-self : goal.invariant_of-self
 invariant_of-self c =
-    let kept = c.self.inside in
-    let more = numbered-more kept.keyspaces.items c.args.keyspace.now kept.tables.entries c.self.invariant.2 in
-    (c.self.invariant.0, c.self.invariant.1, subst (λ ks. AreNumbered ks kept.tables.entries) (sym c.numbered.ensures.keyspaces) more)
-
-pub invariant_of-self-2 : goal.invariant_of-self-2
-invariant_of-self-2 c =
-    let kept = c.self.inside in
-    let ks = c.numbered.new.keyspaces.items in
-    let n = c.in-Some.number in
-    let more = numbered-more kept.keyspaces.items c.args.keyspace.now kept.tables.entries c.self.invariant.2 in
-    let are : AreNumbered ks kept.tables.entries = subst (λ l. AreNumbered l kept.tables.entries) (sym c.numbered.ensures.keyspaces) more in
-    let number : number_of ks c.args.keyspace.now ≡ Some n = sym c.numbered.ensures.number ∙ c.in-Some.is in
-    let put = numbered-put ks kept.tables.entries c.args.table.now c.args.is_there n c.len-distinct.ensures.unique are (below ks c.args.keyspace.now n number) in
-    let numbers = c.numbers_with-numbers.ensures in (
-      c.self.invariant.0,
-      (c.put.ensures.few, c.put.ensures.room, c.put.ensures.empty, c.put.ensures.other),
-      subst (AreNumbered ks) (sym (c.put.ensures.entries ∙ search rules)) put,
-    )
+    let old = c.self.inside.tables.entries in
+    let holders = c.in_ok-holders.holders in
+    let keyspace = c.args.keyspace.now in
+    let table = c.args.table.now in
+    written-distinct c.set.result old c.set.new.map.entries keyspace table c.args.is_there holders
+    (c.in_ok-holders.ensures ∙ ap (λ p. with_holder (holders_of p table) keyspace c.args.is_there) (sym c.self.view_is))
+    (subst (λ t. OnOk c.set.result (c.set.new.map.entries ≡ insert_entry same_text old t holders)) c.copied.ensures c.set.ensures.written)
+    c.set.ensures.refused c.self.invariant
