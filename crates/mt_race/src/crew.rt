@@ -1,6 +1,6 @@
 //! Who races: what each worker has before its thread starts, and what it does there.
 ghost use Rattle.std.specs.Prelude.{◌≡◌, ◌+◌, ◌++◌, true, [], IfOk, IfSome, OnOk};
-ghost use Rattle.mt_race.specs.Agreements.{AreAsked, all_reads, reads_of, row_key, written, writes_of};
+ghost use Rattle.mt_race.specs.Agreements.{AreAdvancing, AreAsked, AreControls, all_reads, is_finished, reads_of, row_key, written, writes_of};
 
 use crate::RaceFault;
 use crate::moving::{name, workflow};
@@ -93,6 +93,14 @@ pub(crate) struct Client<D: DeskName> {
     ghost fresh: { pass.calls.items ≡ [] },
 }
 
+/// A pass that lists nothing.
+#[derive(Drop)]
+pub(crate) struct Fresh<D: DeskName> {
+    /// The pass.
+    pub pass: Pass<D>,
+    ghost fresh: { pass.calls.items ≡ [] },
+}
+
 /// The pass of a client that asked for all of its rows.
 #[derive(Drop)]
 pub(crate) struct Wrote<D: DeskName> {
@@ -126,6 +134,14 @@ impl<D: DeskName> Wrote<D> {
     }
 }
 
+/// What the stream worker leaves.
+#[derive(Drop)]
+pub(crate) struct Advanced<D: DeskName> {
+    /// Its pass.
+    pub pass: Pass<D>,
+    ghost advancing: { AreAdvancing pass.calls.items },
+}
+
 /// What the controller leaves.
 #[derive(Drop)]
 pub(crate) struct Controlled<D: DeskName> {
@@ -133,13 +149,14 @@ pub(crate) struct Controlled<D: DeskName> {
     pub pass: Pass<D>,
     /// Why the desk refused a call of it, if it did.
     pub fault: Option<DeskFault>,
+    ghost controls: { AreControls pass.calls.items },
 }
 
 /// Asks for some lines as a client. Answers its pass, if it told the answers to all.
-pub(crate) fn query<R: Wait, G: Gate, D: DeskName, W: Asks + Drop, H: Wait + Drop>(
+pub(crate) fn query<R: Wait, G: Gate, D: DeskName, W: Asks + Drop>(
     rt: &R,
     gate: &G,
-    desk: &Desk<D, W, H>,
+    desk: &Desk<D, W>,
     sender: &Sender<Message>,
     client: Client<D>,
     lines: &[Line],
@@ -160,11 +177,11 @@ pub(crate) fn query<R: Wait, G: Gate, D: DeskName, W: Asks + Drop, H: Wait + Dro
 }
 
 /// Inserts a client's rows. Answers its pass, if it was told the answers to all.
-pub(crate) fn insert<R: Wait, G: Gate, D: DeskName, W: Asks + Drop, H: Wait + Drop>(
+pub(crate) fn insert<R: Wait, G: Gate, D: DeskName, W: Asks + Drop>(
     rt: &R,
     alloc: Global,
     gate: &G,
-    desk: &Desk<D, W, H>,
+    desk: &Desk<D, W>,
     sender: &Sender<Message>,
     client: Client<D>,
     writes: u16,
@@ -184,18 +201,18 @@ pub(crate) fn insert<R: Wait, G: Gate, D: DeskName, W: Asks + Drop, H: Wait + Dr
 }
 
 /// Advances the forward stream.
-pub(crate) fn feed<R: Wait, G: Gate, D: DeskName, W: Asks + Drop, H: Wait + Drop>(
+pub(crate) fn feed<R: Wait, G: Gate, D: DeskName, W: Asks + Drop>(
     rt: &R,
     gate: &G,
-    desk: &Desk<D, W, H>,
+    desk: &Desk<D, W>,
     worker: u16,
-    pass: Pass<D>,
-) -> Pass<D> {
+    fresh: Fresh<D>,
+) -> Advanced<D> {
     let (pass, _taken) = stream_worker(
         rt,
         gate,
         desk,
-        pass,
+        fresh.pass,
         worker,
         &workflow(),
         Slot::Forward,
@@ -203,7 +220,7 @@ pub(crate) fn feed<R: Wait, G: Gate, D: DeskName, W: Asks + Drop, H: Wait + Drop
         MOST_AT_ONCE,
         TURNS,
     );
-    pass
+    Advanced { pass }
 }
 
 /// The desk's fault, if that ended a controller.
@@ -214,27 +231,34 @@ fn fault_of(end: Result<Driven, ControlFault>) -> Option<DeskFault> {
     }
 }
 
+/// Whether a controller has done all that it was to do.
+fn is_finished(end: &Result<Driven, ControlFault>) -> bool
+    ensures { result ≡ is_finished end.now }
+{
+    matches!(end, Ok(Driven::Done))
+}
+
 /// Switches the traffic of all types, and reverses it where that is done.
-pub(crate) fn control<R: Wait, G: Gate, D: DeskName, W: Asks + Drop, H: Wait + Drop>(
+pub(crate) fn control<R: Wait, G: Gate, D: DeskName, W: Asks + Drop>(
     rt: &R,
     gate: &G,
-    desk: &Desk<D, W, H>,
+    desk: &Desk<D, W>,
     worker: u16,
-    pass: Pass<D>,
+    fresh: Fresh<D>,
 ) -> Controlled<D> {
     let workflow = workflow();
     let (pass, switched) = controller(
         rt,
         gate,
         desk,
-        pass,
+        fresh.pass,
         worker,
         &workflow,
         TypeSet::ALL,
         false,
         TRIES,
     );
-    if !matches!(switched, Ok(Driven::Done)) {
+    if !is_finished(&switched) {
         return Controlled {
             pass,
             fault: fault_of(switched),

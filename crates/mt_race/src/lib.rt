@@ -5,6 +5,7 @@
 mod counting;
 mod crew;
 mod fault;
+mod hearing;
 mod moving;
 mod racing;
 mod threads;

@@ -2,11 +2,12 @@
 ghost use Rattle.std.specs.Prelude.{◌≡◌, ◌+◌, ◌≤◌, ◌++◌, true, [], ◌∷◌, IfOk, length, map};
 ghost use Rattle.mt_desk.specs.Passes.{HaveOneHistory};
 ghost use Rattle.mt_site.specs.Stood.{IsCoreWith};
-ghost use Rattle.mt_race.specs.Agreements.{AreAsked, AreWriters, RacedAt, RacedFrom, acknowledged_in, all_reads, rows_found};
+ghost use Rattle.mt_race.specs.Agreements.{AreAdvancing, AreAsked, AreControls, AreWriters, RacedAt, RacedFrom, acknowledged_in, all_reads, rows_found};
 
 use crate::RaceFault;
 use crate::counting::{acknowledged_in, rows_found};
-use crate::crew::{Client, Wrote, gets, query};
+use crate::crew::{Client, Fresh, Wrote, gets, query};
+use crate::hearing::are_told;
 use crate::moving::set_up;
 use crate::threads::{Crew, Ended, run};
 use crossbeam_channel::unbounded;
@@ -28,14 +29,14 @@ pub struct Raced {
     pub acknowledged: u64,
     /// How many of the keys that were to be written have a row at the end.
     pub rows: u64,
-    /// Whether these are as many, and the history of the desk is just what all passes list.
+    /// Whether these are as many, the history of the desk is just what all passes list, and each answer to a client was told once.
     pub agree: bool,
 }
 
 /// A worker that is a client, with its pass and its router.
-fn client_of<R: Wait, D: DeskName, W: Asks + Drop, H: Wait + Drop>(
+fn client_of<R: Wait, D: DeskName, W: Asks + Drop>(
     rt: &R,
-    desk: &Desk<D, W, H>,
+    desk: &Desk<D, W>,
     worker: u16,
 ) -> Result<Client<D>, RaceFault> {
     let pass = pass_of(rt, desk, worker)?;
@@ -50,9 +51,9 @@ fn client_of<R: Wait, D: DeskName, W: Asks + Drop, H: Wait + Drop>(
 }
 
 /// The pass of a worker: it is the client of the next number.
-fn pass_of<R: Wait, D: DeskName, W: Asks + Drop, H: Wait + Drop>(
+fn pass_of<R: Wait, D: DeskName, W: Asks + Drop>(
     rt: &R,
-    desk: &Desk<D, W, H>,
+    desk: &Desk<D, W>,
     worker: u16,
 ) -> Result<Pass<D>, RaceFault>
     ensures { IfOk result (λ pass. pass.calls.items ≡ []) }
@@ -64,10 +65,10 @@ fn pass_of<R: Wait, D: DeskName, W: Asks + Drop, H: Wait + Drop>(
 }
 
 /// The clients: `Memory`, and `Desk`.
-fn clients_of<R: Wait, D: DeskName, W: Asks + Drop, H: Wait + Drop>(
+fn clients_of<R: Wait, D: DeskName, W: Asks + Drop>(
     rt: &R,
     alloc: Global,
-    desk: &Desk<D, W, H>,
+    desk: &Desk<D, W>,
     clients: u16,
 ) -> Result<Vec<Client<D>>, RaceFault> {
     let mut all = Vec::new(alloc);
@@ -80,41 +81,50 @@ fn clients_of<R: Wait, D: DeskName, W: Asks + Drop, H: Wait + Drop>(
     Ok(all)
 }
 
-/// Has all workers ask at once, and answers what they leave.
+/// The pass of a worker, beside its number.
+fn fresh_of<R: Wait, D: DeskName, W: Asks + Drop>(
+    rt: &R,
+    desk: &Desk<D, W>,
+    worker: u16,
+) -> Result<(u16, Fresh<D>), RaceFault> {
+    let pass = pass_of(rt, desk, worker)?;
+    Ok((worker, Fresh { pass }))
+}
+
+/// Has all workers ask at once. Answers what they leave, and whether each client told of each of its lines once.
 fn write_all<
     R: Threads + Wait + Sync,
     G: Gate + Sync,
     D: DeskName + Send + Sync,
     W: Asks + Drop + Send,
-    H: Wait + Drop + Send,
 >(
     rt: &R,
     alloc: Global,
     gate: &G,
-    desk: &Desk<D, W, H>,
+    desk: &Desk<D, W>,
     clients: u16,
     writes: u16,
-) -> Result<Ended<D>, RaceFault> {
+) -> Result<(Ended<D>, bool), RaceFault> {
     let Ok((sender, receiver)) = unbounded(alloc) else {
         return Err(RaceFault::Memory);
     };
-    let (feeder, switcher) = (clients, clients.saturating_add(1));
     let crew = Crew {
         clients: clients_of(rt, alloc, desk, clients)?,
         writes,
-        feeder: (feeder, pass_of(rt, desk, feeder)?),
-        switcher: (switcher, pass_of(rt, desk, switcher)?),
+        feeder: fresh_of(rt, desk, clients)?,
+        switcher: fresh_of(rt, desk, clients.saturating_add(1))?,
     };
-    let ended = run(rt, alloc, gate, desk, &sender, crew);
-    drop(receiver);
-    ended
+    let ended = run(rt, alloc, gate, desk, &sender, crew)?;
+    drop(sender);
+    let told = are_told(rt, alloc, &receiver, clients, writes)?;
+    Ok((ended, told))
 }
 
 /// Reads each row as one more client: `Memory`, also where it ended before its last line, and `Desk`.
-fn read_all<R: Wait, D: DeskName, W: Asks + Drop, H: Wait + Drop>(
+fn read_all<R: Wait, D: DeskName, W: Asks + Drop>(
     rt: &R,
     alloc: Global,
-    desk: &Desk<D, W, H>,
+    desk: &Desk<D, W>,
     clients: u16,
     writes: u16,
 ) -> Result<Pass<D>, RaceFault>
@@ -175,11 +185,13 @@ fn passes_of<D: DeskName>(
     writes: u16,
 ) -> Result<Passes<D>, RaceFault>
     ensures writers { IfOk result (λ passes. AreWriters writes 0 (map (λ pass. (pass.client, pass.calls.items)) passes.writers.items)) }
+    ensures stream { IfOk result (λ passes. AreAdvancing passes.stream.calls.items) }
+    ensures controller { IfOk result (λ passes. AreControls passes.controller.calls.items) }
     ensures reader { IfOk result (λ passes. passes.reader ≡ reader) }
 {
     let Ended {
         wrote,
-        stream,
+        advanced,
         controlled,
     } = ended;
     if let Some(fault) = controlled.fault {
@@ -188,7 +200,7 @@ fn passes_of<D: DeskName>(
     let writers = writers_of(alloc, wrote, writes)?;
     Ok(Passes {
         writers,
-        stream,
+        stream: advanced.pass,
         controller: controlled.pass,
         reader,
     })
@@ -210,9 +222,9 @@ fn are_in_place<D: DeskName>(passes: &Passes<D>, clients: u16) -> bool
 }
 
 /// Hands in all passes. Answers whether the history is just what they list, and `Memory`.
-fn gather<R: Wait, D: DeskName, W: Asks + Drop, H: Wait + Drop>(
+fn gather<R: Wait, D: DeskName, W: Asks + Drop>(
     rt: &R,
-    desk: &Desk<D, W, H>,
+    desk: &Desk<D, W>,
     passes: Passes<D>,
 ) -> Result<bool, RaceFault>
     ensures { IfOk result (λ is. is ≡ true → HaveOneHistory D.scopes D.opening (map (λ pass. (pass.client, pass.calls.items)) (passes.writers.items ++ passes.stream ∷ passes.controller ∷ passes.reader ∷ []))) }
@@ -232,11 +244,12 @@ fn gather<R: Wait, D: DeskName, W: Asks + Drop, H: Wait + Drop>(
     Ok(desk.gather(rt, all).is_ok())
 }
 
-/// What came of a race with these passes: `Memory`, also where the writes are too many to be counted.
-fn raced_with<R: Wait, D: DeskName, W: Asks + Drop, H: Wait + Drop>(
+/// What came of a race with these passes, in which each answer was told once or not: `Memory`, also where the writes are too many to be counted.
+fn raced_with<R: Wait, D: DeskName, W: Asks + Drop>(
     rt: &R,
-    desk: &Desk<D, W, H>,
+    desk: &Desk<D, W>,
     passes: Passes<D>,
+    told: bool,
 ) -> Result<Raced, RaceFault>
     ensures agree { IfOk result (λ raced. raced.agree ≡ true → raced.acknowledged ≡ raced.rows) }
     ensures acknowledged { IfOk result (λ raced. raced.acknowledged ≡ acknowledged_in (map (λ pass. (pass.client, pass.calls.items)) passes.writers.items)) }
@@ -251,7 +264,7 @@ fn raced_with<R: Wait, D: DeskName, W: Asks + Drop, H: Wait + Drop>(
     Ok(Raced {
         acknowledged,
         rows,
-        agree: is_gathered && acknowledged == rows,
+        agree: is_gathered && told && acknowledged == rows,
     })
 }
 
@@ -261,23 +274,22 @@ fn race_at<
     G: Gate + Sync,
     D: DeskName + Send + Sync,
     W: Asks + Drop + Send,
-    H: Wait + Drop + Send,
 >(
     rt: &R,
     alloc: Global,
     gate: &G,
-    desk: &Desk<D, W, H>,
+    desk: &Desk<D, W>,
     clients: u16,
     writes: u16,
 ) -> Result<Raced, RaceFault>
     ensures agree { IfOk result (λ raced. raced.agree ≡ true → raced.acknowledged ≡ raced.rows) }
     ensures raced { IfOk result (λ raced. raced.agree ≡ true → RacedFrom D.scopes D.opening clients writes raced) }
 {
-    let ended = write_all(rt, alloc, gate, desk, clients, writes)?;
+    let (ended, told) = write_all(rt, alloc, gate, desk, clients, writes)?;
     let reader = read_all(rt, alloc, desk, clients, writes)?;
     let passes = passes_of(alloc, ended, reader, writes)?;
     if are_in_place(&passes, clients) {
-        raced_with(rt, desk, passes)
+        raced_with(rt, desk, passes, told)
     } else {
         Err(RaceFault::Desk(DeskFault::PassMissing))
     }
@@ -307,7 +319,7 @@ fn race_named<
     ensures agree { IfOk result (λ raced. raced.agree ≡ true → raced.acknowledged ≡ raced.rows) }
     ensures raced { IfOk result (λ raced. raced.agree ≡ true → RacedFrom D.scopes D.opening clients writes raced) }
 {
-    let opened: Result<Desk<D, W, &R>, DeskFault> = Desk::open(alloc, rt, blank, opened, site);
+    let opened: Result<Desk<D, W>, DeskFault> = Desk::open(alloc, rt, blank, opened, site);
     let desk = match opened {
         Ok(desk) => desk,
         Err(fault) => return Err(RaceFault::Desk(fault)),
@@ -337,7 +349,7 @@ pub fn race<R: Threads + Wait + Sync, G: Gate + Sync, W: Asks + Drop + Send>(
     ensures raced { IfOk result (λ raced. raced.agree ≡ true → RacedAt (W.scopes watchers) clients writes raced) }
 {
     let mut site = Site::open(alloc, watchers);
-    set_up(&mut site)?;
+    set_up(alloc, &mut site)?;
     race_named::<R, G, Brand, W>(
         rt,
         alloc,

@@ -1,9 +1,9 @@
 //! The workers of a race, each in a thread of its own.
 
 use crate::RaceFault;
-use crate::crew::{Client, Controlled, Wrote, control, feed, insert};
+use crate::crew::{Advanced, Client, Controlled, Fresh, Wrote, control, feed, insert};
 use crossbeam_channel::Sender;
-use mt_desk::{Desk, DeskName, Pass};
+use mt_desk::{Desk, DeskName};
 use mt_watch::Asks;
 use mt_workers::{Gate, Message};
 use std::alloc::Global;
@@ -25,13 +25,12 @@ fn start_client<
     G: Gate + Sync,
     D: DeskName + Send + Sync,
     W: Asks + Drop + Send,
-    H: Wait + Drop + Send,
 >(
     scope: &Scope<'s, E>,
     rt: &'s R,
     alloc: Global,
     gate: &'s G,
-    desk: &'s Desk<D, W, H>,
+    desk: &'s Desk<D, W>,
     sender: &'s Sender<Message>,
     client: Client<D>,
     writes: u16,
@@ -49,16 +48,17 @@ fn start_feeder<
     G: Gate + Sync,
     D: DeskName + Send + Sync,
     W: Asks + Drop + Send,
-    H: Wait + Drop + Send,
 >(
     scope: &Scope<'s, E>,
     rt: &'s R,
     gate: &'s G,
-    desk: &'s Desk<D, W, H>,
+    desk: &'s Desk<D, W>,
     worker: u16,
-    pass: Pass<D>,
-) -> Started<Pass<D>> {
-    scope.spawn(move || feed(rt, gate, desk, worker, pass)).ok()
+    fresh: Fresh<D>,
+) -> Started<Advanced<D>> {
+    scope
+        .spawn(move || feed(rt, gate, desk, worker, fresh))
+        .ok()
 }
 
 /// Starts the thread of the controller.
@@ -69,17 +69,16 @@ fn start_controller<
     G: Gate + Sync,
     D: DeskName + Send + Sync,
     W: Asks + Drop + Send,
-    H: Wait + Drop + Send,
 >(
     scope: &Scope<'s, E>,
     rt: &'s R,
     gate: &'s G,
-    desk: &'s Desk<D, W, H>,
+    desk: &'s Desk<D, W>,
     worker: u16,
-    pass: Pass<D>,
+    fresh: Fresh<D>,
 ) -> Started<Controlled<D>> {
     scope
-        .spawn(move || control(rt, gate, desk, worker, pass))
+        .spawn(move || control(rt, gate, desk, worker, fresh))
         .ok()
 }
 
@@ -99,13 +98,12 @@ fn start_clients<
     G: Gate + Sync,
     D: DeskName + Send + Sync,
     W: Asks + Drop + Send,
-    H: Wait + Drop + Send,
 >(
     scope: &Scope<'s, E>,
     rt: &'s R,
     alloc: Global,
     gate: &'s G,
-    desk: &'s Desk<D, W, H>,
+    desk: &'s Desk<D, W>,
     sender: &'s Sender<Message>,
     clients: Vec<Client<D>>,
     writes: u16,
@@ -151,9 +149,9 @@ pub(crate) struct Crew<D: DeskName> {
     /// How many writes each makes.
     pub writes: u16,
     /// The stream worker: its number, and its pass.
-    pub feeder: (u16, Pass<D>),
+    pub feeder: (u16, Fresh<D>),
     /// The controller.
-    pub switcher: (u16, Pass<D>),
+    pub switcher: (u16, Fresh<D>),
 }
 
 /// What the workers leave.
@@ -162,7 +160,7 @@ pub(crate) struct Ended<D: DeskName> {
     /// Those of the clients that write.
     pub wrote: Vec<Wrote<D>>,
     /// The stream worker.
-    pub stream: Pass<D>,
+    pub advanced: Advanced<D>,
     /// The controller.
     pub controlled: Controlled<D>,
 }
@@ -172,13 +170,13 @@ fn all_ended<D: DeskName>(
     writing: bool,
     written: bool,
     wrote: Vec<Wrote<D>>,
-    stream: Option<Pass<D>>,
+    advanced: Option<Advanced<D>>,
     controlled: Option<Controlled<D>>,
 ) -> Result<Ended<D>, RaceFault> {
-    match (stream, controlled) {
-        (Some(stream), Some(controlled)) if writing && written => Ok(Ended {
+    match (advanced, controlled) {
+        (Some(advanced), Some(controlled)) if writing && written => Ok(Ended {
             wrote,
-            stream,
+            advanced,
             controlled,
         }),
         (Some(_), Some(_)) if writing => Err(RaceFault::Memory),
@@ -194,13 +192,12 @@ fn run_in<
     G: Gate + Sync,
     D: DeskName + Send + Sync,
     W: Asks + Drop + Send,
-    H: Wait + Drop + Send,
 >(
     scope: &Scope<'s, E>,
     rt: &'s R,
     alloc: Global,
     gate: &'s G,
-    desk: &'s Desk<D, W, H>,
+    desk: &'s Desk<D, W>,
     sender: &'s Sender<Message>,
     crew: Crew<D>,
 ) -> Result<Ended<D>, RaceFault> {
@@ -230,8 +227,8 @@ fn run_in<
     let fed = start_feeder(scope, rt, gate, desk, feeder.0, feeder.1);
     let switched = start_controller(scope, rt, gate, desk, switcher.0, switcher.1);
     let written = join_clients(rt, threads, &mut wrote);
-    let (stream, controlled) = (join(rt, fed), join(rt, switched));
-    all_ended(writing, written, wrote, stream, controlled)
+    let (advanced, controlled) = (join(rt, fed), join(rt, switched));
+    all_ended(writing, written, wrote, advanced, controlled)
 }
 
 /// Starts a thread for each client, one for the stream and one for the controller, and answers what they leave once all have ended.
@@ -242,12 +239,11 @@ pub(crate) fn run<
     G: Gate + Sync,
     D: DeskName + Send + Sync,
     W: Asks + Drop + Send,
-    H: Wait + Drop + Send,
 >(
     rt: &R,
     alloc: Global,
     gate: &G,
-    desk: &Desk<D, W, H>,
+    desk: &Desk<D, W>,
     sender: &Sender<Message>,
     crew: Crew<D>,
 ) -> Result<Ended<D>, RaceFault> {

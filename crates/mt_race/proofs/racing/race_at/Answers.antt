@@ -11,6 +11,6 @@ returns-then-are_in_place-clause-raced g c =
     so_raced (λ pass. (pass.client, pass.calls.items)) g.D.DeskName.scopes g.D.DeskName.opening c.args.clients c.args.writes c.raced_with.result
     passes.writers.items passes.stream passes.controller passes.reader
     (placed.writers c.if-are_in_place.true) (placed.stream c.if-are_in_place.true) (placed.controller c.if-are_in_place.true) (placed.reader c.if-are_in_place.true)
-    c.in_ok-passes.ensures.writers
+    c.in_ok-passes.ensures.writers c.in_ok-passes.ensures.stream c.in_ok-passes.ensures.controller
     (subst (λ reader. AreAsked (all_reads c.args.clients c.args.writes) reader.calls.items) (sym c.in_ok-passes.ensures.reader) c.in_ok-reader.ensures)
     c.raced_with.ensures.one c.raced_with.ensures.acknowledged c.raced_with.ensures.rows
