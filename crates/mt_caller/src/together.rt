@@ -1,0 +1,164 @@
+//! A table that moves while clients ask for it: a desk, its workers, and a router.
+ghost use Rattle.std.specs.Prelude.{◌≡◌, [], ◌∷◌, true};
+ghost use Rattle.mt_desk.specs.Passes.{HaveOneHistory};
+ghost use Rattle.mt_site.specs.Stood.{IsCoreWith};
+
+use crate::names::{SHARDS, by_name, create_and_copy, insert, product, second, target};
+use mt_desk::{Desk, DeskFault, DeskName, Opened, Pass};
+use mt_site::{Asks, Driven, Site, Slot, TabletType, TypeSet};
+use mt_workers::{
+    Line, Message, NoGate, Sender, controller, query_worker, stream_worker, unbounded,
+};
+use std::alloc::Global;
+use std::marker::Brand;
+use std::sync::Wait;
+use std::sync::ledger::Blank;
+use std::thread::{Threads, join};
+
+/// How many rows the client inserts.
+const ROWS: u64 = 32;
+
+/// Makes the workflow, and copies the table. Answers the pass of who asked for it, if all was taken.
+fn create<R: Wait, D: DeskName, W: Asks + Drop>(rt: &R, desk: &Desk<D, W>) -> Option<Pass<D>> {
+    let mut pass = desk.pass(rt, 1).ok()?;
+    for event in create_and_copy(&second(), product()) {
+        if !matches!(desk.ask(rt, &mut pass, event), Ok(Ok(_))) {
+            return None;
+        }
+    }
+    Some(pass)
+}
+
+/// Inserts rows by the table's name, half of them in either shard of the target. Answers the client's pass, if each was answered.
+fn write<R: Wait, D: DeskName, W: Asks + Drop>(
+    rt: &R,
+    alloc: Global,
+    desk: &Desk<D, W>,
+    sender: &Sender<Message>,
+) -> Option<Pass<D>> {
+    let mut lines = Vec::new(alloc);
+    for row in 0..ROWS {
+        let line = Line::Put(by_name(product()), insert(row << 59));
+        lines.push(line).ok()?;
+    }
+    let (pass, router) = (desk.pass(rt, 2).ok()?, desk.router(rt).ok()?);
+    match query_worker(rt, &NoGate, desk, router, pass, 0, &lines, sender) {
+        (pass, ROWS) => Some(pass),
+        _ => None,
+    }
+}
+
+/// Advances the streams of both shards. Answers the worker's pass.
+fn feed<R: Wait, D: DeskName, W: Asks + Drop>(rt: &R, desk: &Desk<D, W>) -> Option<Pass<D>> {
+    let pass = desk.pass(rt, 3).ok()?;
+    let (pass, _taken) = stream_worker(
+        rt,
+        &NoGate,
+        desk,
+        pass,
+        1,
+        &second(),
+        Slot::Forward,
+        SHARDS,
+        100,
+        200,
+    );
+    Some(pass)
+}
+
+/// Switches the traffic of all types. Answers the controller's pass, if that is done.
+fn switch<R: Wait, D: DeskName, W: Asks + Drop>(rt: &R, desk: &Desk<D, W>) -> Option<Pass<D>> {
+    let pass = desk.pass(rt, 4).ok()?;
+    match controller(
+        rt,
+        &NoGate,
+        desk,
+        pass,
+        2,
+        &second(),
+        TypeSet::ALL,
+        false,
+        256,
+    ) {
+        (pass, Ok(Driven::Done)) => Some(pass),
+        _ => None,
+    }
+}
+
+/// Hands in four passes, and says whether they are gathered: then there is one legal history with just their calls.
+fn are_gathered<R: Wait, D: DeskName, W: Asks + Drop>(
+    rt: &R,
+    alloc: Global,
+    desk: &Desk<D, W>,
+    passes: [Pass<D>; 4],
+) -> bool {
+    match Vec::from_array(alloc, passes) {
+        Ok(passes) => desk.gather(rt, passes).is_ok(),
+        Err(_) => false,
+    }
+}
+
+/// Whether the table's name leads to the target, as a router says that was told what stands now.
+fn leads_on<R: Wait, D: DeskName, W: Asks + Drop>(rt: &R, desk: &Desk<D, W>) -> bool {
+    let (Ok(mut router), Ok(told)) = (desk.router(rt), desk.tell(rt)) else {
+        return false;
+    };
+    router.learn(told);
+    match router.route(&by_name(product()), TabletType::Primary) {
+        Ok((found, _front)) => found.keyspace == target(),
+        Err(_) => false,
+    }
+}
+
+/// Moves the second table, while a client writes to it. Answers whether it is moved, and whether one legal history has just the calls of all four.
+fn move_at<R: Threads + Wait + Sync, D: DeskName + Send + Sync, W: Asks + Drop + Send>(
+    rt: &R,
+    alloc: Global,
+    desk: &Desk<D, W>,
+) -> Option<bool> {
+    let created = create(rt, desk)?;
+    let (sender, _receiver) = unbounded(alloc).ok()?;
+    let sender = &sender;
+    let (wrote, (fed, switched)) = join(
+        rt,
+        move || write(rt, alloc, desk, sender),
+        move || join(rt, move || feed(rt, desk), move || switch(rt, desk)),
+    );
+    let passes = [created, wrote?, fed?, switched?];
+    Some(are_gathered(rt, alloc, desk, passes) && leads_on(rt, desk))
+}
+
+/// The same at a desk that is opened for it, under the name of a blank.
+fn move_named<R: Threads + Wait + Sync, D: DeskName + Send + Sync, W: Asks + Drop + Send>(
+    rt: &R,
+    alloc: Global,
+    blank: Blank,
+    opened: Opened,
+    site: Site<W>,
+) -> bool
+    requires name { (blank.name ≡ D.name) × (blank.parts ≡ D.parts) }
+    requires list { opened.seen.book ≡ D.book }
+    requires opening { site.core ≡ D.opening }
+    requires scopes { W.scopes site.watchers ≡ D.scopes }
+    requires stood { IsCoreWith D.scopes site.core }
+{
+    let made: Result<Desk<D, W>, DeskFault> = Desk::open(alloc, rt, blank, opened, site);
+    let Ok(desk) = made else {
+        return false;
+    };
+    let moved = move_at(rt, alloc, &desk);
+    desk.close(rt);
+    moved == Some(true)
+}
+
+/// Moves the second table at a desk, while a client writes to it. Answers whether it is moved, and one legal history has just the calls of all.
+pub(crate) fn move_together<R: Threads + Wait + Sync, W: Asks + Drop + Send>(
+    rt: &R,
+    alloc: Global,
+    site: Site<W>,
+) -> bool
+    requires { IsCoreWith (W.scopes site.watchers) site.core }
+{
+    let (blank, opened) = (Blank::new(1), Opened::new());
+    move_named::<R, Brand, W>(rt, alloc, blank, opened, site)
+}
