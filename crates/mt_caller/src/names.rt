@@ -88,13 +88,13 @@ pub(crate) fn create_and_copy(workflow: &WorkflowName, table: TableName) -> [Eve
     ]
 }
 
-/// The copy to one shard, from the first row on, of at most 100 rows.
+/// The copy to one shard, of at most 100 rows. It begins behind what the source's log has then: the two rows of the first table.
 fn copy(workflow: &WorkflowName, shard: u8) -> Event {
     Event::Advance {
         workflow: workflow.copied(),
         stream: Slot::Forward,
         shard,
-        at: 0,
+        at: 2,
         max: 100,
     }
 }
