@@ -1,7 +1,8 @@
 //! A table that moves while clients ask for it: a desk, its workers, and a router.
-ghost use Rattle.std.specs.Prelude.{◌≡◌, [], ◌∷◌, true};
+ghost use Rattle.std.specs.Prelude.{◌≡◌, true, OnSome, map};
 ghost use Rattle.mt_desk.specs.Passes.{HaveOneHistory};
 ghost use Rattle.mt_site.specs.Stood.{IsCoreWith};
+ghost use Rattle.mt_caller.specs.Gathered.{OfFour};
 
 use crate::names::{SHARDS, by_name, create_and_copy, insert, product, second, target};
 use mt_desk::{Desk, DeskFault, DeskName, Opened, Pass};
@@ -91,7 +92,9 @@ fn are_gathered<R: Wait, D: DeskName, W: Asks + Drop>(
     alloc: Global,
     desk: &Desk<D, W>,
     passes: [Pass<D>; 4],
-) -> bool {
+) -> bool
+    ensures { result ≡ true → HaveOneHistory D.scopes D.opening (map (λ pass. (pass.client, pass.calls.items)) passes) }
+{
     match Vec::from_array(alloc, passes) {
         Ok(passes) => desk.gather(rt, passes).is_ok(),
         Err(_) => false,
@@ -110,12 +113,15 @@ fn leads_on<R: Wait, D: DeskName, W: Asks + Drop>(rt: &R, desk: &Desk<D, W>) -> 
     }
 }
 
-/// Moves the second table, while a client writes to it. Answers whether it is moved, and whether one legal history has just the calls of all four.
+/// Moves the second table, while a client writes to it. Answers whether its name leads to the target then, if one legal history has just the calls of
+/// all four.
 fn move_at<R: Threads + Wait + Sync, D: DeskName + Send + Sync, W: Asks + Drop + Send>(
     rt: &R,
     alloc: Global,
     desk: &Desk<D, W>,
-) -> Option<bool> {
+) -> Option<bool>
+    ensures { OnSome result (OfFour (HaveOneHistory D.scopes D.opening)) }
+{
     let created = create(rt, desk)?;
     let (sender, _receiver) = unbounded(alloc).ok()?;
     let sender = &sender;
@@ -125,7 +131,10 @@ fn move_at<R: Threads + Wait + Sync, D: DeskName + Send + Sync, W: Asks + Drop +
         move || join(rt, move || feed(rt, desk), move || switch(rt, desk)),
     );
     let passes = [created, wrote?, fed?, switched?];
-    Some(are_gathered(rt, alloc, desk, passes) && leads_on(rt, desk))
+    if !are_gathered(rt, alloc, desk, passes) {
+        return None;
+    }
+    Some(leads_on(rt, desk))
 }
 
 /// The same at a desk that is opened for it, under the name of a blank.
@@ -137,10 +146,11 @@ fn move_named<R: Threads + Wait + Sync, D: DeskName + Send + Sync, W: Asks + Dro
     site: Site<W>,
 ) -> bool
     requires name { (blank.name ≡ D.name) × (blank.parts ≡ D.parts) }
-    requires list { opened.seen.book ≡ D.book }
+    requires list { (opened.seen.book ≡ D.book) × (opened.blank.name ≡ D.shown) }
     requires opening { site.core ≡ D.opening }
     requires scopes { W.scopes site.watchers ≡ D.scopes }
     requires stood { IsCoreWith D.scopes site.core }
+    ensures { result ≡ true → OfFour (HaveOneHistory D.scopes D.opening) }
 {
     let made: Result<Desk<D, W>, DeskFault> = Desk::open(alloc, rt, blank, opened, site);
     let Ok(desk) = made else {
@@ -148,16 +158,21 @@ fn move_named<R: Threads + Wait + Sync, D: DeskName + Send + Sync, W: Asks + Dro
     };
     let moved = move_at(rt, alloc, &desk);
     desk.close(rt);
-    moved == Some(true)
+    match moved {
+        Some(leads_on) => leads_on,
+        None => false,
+    }
 }
 
 /// Moves the second table at a desk, while a client writes to it. Answers whether it is moved, and one legal history has just the calls of all.
+/// It names the desk, so that its contract has no `D`.
 pub(crate) fn move_together<R: Threads + Wait + Sync, W: Asks + Drop + Send>(
     rt: &R,
     alloc: Global,
     site: Site<W>,
 ) -> bool
     requires { IsCoreWith (W.scopes site.watchers) site.core }
+    ensures { result ≡ true → OfFour (HaveOneHistory (W.scopes site.watchers) site.core) }
 {
     let (blank, opened) = (Blank::new(1), Opened::new());
     move_named::<R, Brand, W>(rt, alloc, blank, opened, site)

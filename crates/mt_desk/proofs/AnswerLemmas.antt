@@ -4,24 +4,28 @@ use Rattle.std.proofs.Math.Logic.{∥∥₁_elim}
 use Rattle.std.proofs.Props.{props}
 use Rattle.std.proofs.lemmas.Bool.{true≢false}
 use Rattle.std.specs.Option.{option_map_or}
-use Rattle.std.specs.Prelude.{⊤, ◌==◌, ◌||◌}
+use Rattle.std.specs.Prelude.{⊤, ◌==◌, ◌||◌, IsOk, OnErr, is_ok}
 use Rattle.mt_event.specs.declared.reason.Reason.{Reason}
 use Rattle.mt_event.specs.declared.refusal.Refusal as code_refusal
 use Rattle.mt_event.specs.declared.refusal.Refusal.TheVariants as refusal
 use Rattle.mt_event.specs.declared.reply.Reply.{Reply}
 use Rattle.mt_event.specs.declared.reply.Reply.TheVariants as reply
-use Rattle.mt_event.specs.Events.{answer_from}
+use Rattle.mt_event.specs.Events.{answer_from, shown_from}
 use Rattle.mt_event.specs.Reasons.{done_by}
-use Rattle.mt_event.specs.CompactAnswers.{needs_room, read_answer, write_answer}
+use Rattle.mt_event.specs.CompactAnswers.{may_stand_apart, read_answer, write_answer}
 use Rattle.mt_model.specs.declared.entries.Scope.{Scope}
 use Rattle.mt_model.specs.Rows.{RowValue}
-use Rattle.mt_plain.specs.Answers.{Answers}
-use Rattle.mt_plain.specs.Events.{Event, Refusal, Way, cancel, undo, nothing_under_way, past_journal, rule_conflict, stale, target_has_table, traffic_switched, under_way}
-use Rattle.mt_plain.specs.Plain.{Live, Plain, live_at, stands_done, write_journal}
+use Rattle.mt_plain.specs.Answers.{Answers, advanced_of, lane_advanced_of}
+use Rattle.mt_plain.specs.Events as plain
+use Rattle.mt_plain.specs.Events.{Answer, Event, Refusal, StreamName, Way, add_keyspace, add_table, advance, begin_reverse, begin_switch, cancel, complete, create, edit_rule, read, row, show, step, undo, write, nothing_under_way, past_journal, rule_conflict, stale, target_has_table, traffic_switched, under_way}
+use Rattle.mt_plain.specs.Plain.{Lane, Live, Plain, lane_at, live_at, stands_done, write_journal}
 use Rattle.mt_plain.specs.Refuse.{cancel_refusal, in_workflow, or_else, refusal_of, refuse_if, undo_refusal}
+use Rattle.mt_site.specs.Applies.{AppliesAndPurges}
 use Rattle.mt_site.specs.ByHand.{read_from}
 use Rattle.mt_site.specs.Stood.{IsCoreWith}
-use Rattle.mt_stands.specs.Ways.{CoreState, CoreSteps}
+use Rattle.mt_stands.specs.Base.{BaseState}
+use Rattle.mt_stands.specs.Ways.{CoreState, CoreSteps, WaysState}
+use Rattle.mt_watch.specs.Asking.{Answering}
 use Rattle.mt_desk.specs.Room.{gives_up, is_undo_or_cancel}
 
 -- ---- refusals that tell a name
@@ -62,7 +66,7 @@ not_told p e r is refused told = true≢false (sym (ap tells refused ∙ told) �
 
 -- ---- their answers
 
-short_answer : (p : Plain) (e : Event) → is_undo_or_cancel e ≡ true → (a : Result Reply code_refusal.Refusal) → Answers p e (answer_from a) → needs_room a ≡ false
+short_answer : (p : Plain) (e : Event) → is_undo_or_cancel e ≡ true → (a : Result Reply code_refusal.Refusal) → Answers p e (answer_from a) → may_stand_apart a ≡ false
 short_answer p e is (Ok reply.Done) given = refl
 short_answer p e is (Ok (reply.Row None)) given = refl
 short_answer p (undo workflow at) is (Ok (reply.Row (Some value))) given = absurd (cc given.1)
@@ -78,8 +82,8 @@ short_answer p e is (Err (refusal.Other reason)) given = refl
 
 -- from whatever state the controller stands for
 pub answer_in_place : (scopes : List Scope) (now later : CoreState) → IsCoreWith scopes now → (e : Event) (a : Result Reply code_refusal.Refusal) → CoreSteps scopes now e (answer_from a) later
-    → is_undo_or_cancel e ≡ true → needs_room a ≡ false
-answer_in_place scopes now later stood e a step is = ∥∥₁_elim stood (hlevel props) (λ (p, stands). short_answer p e is a ((step p stands).0))
+    → is_undo_or_cancel e ≡ true → may_stand_apart a ≡ false
+answer_in_place scopes now later stood e a steps is = ∥∥₁_elim stood (hlevel props) (λ (p, stands). short_answer p e is a ((steps p stands).0))
 
 -- ---- what gives a move up
 
@@ -95,12 +99,95 @@ write_told (Ok done) = refl
 write_told (Err reason) = refl
 
 pub read_told : (told : Result (Option RowValue) Reason) → answer_from (read_answer told) ≡ read_from told
-read_told (Ok row) = refl
+read_told (Ok found) = refl
 read_told (Err reason) = refl
 
--- ---- room
+-- ---- answers that may take memory
 
--- room is there where it may be needed
-pub ready_from : (short needs : Bool) (Ready : Type 0) → (short ≡ false → Ready) → (short ≡ true → needs ≡ false) → needs ≡ true → Ready
-ready_from true needs Ready ready none is = absurd (true≢false (sym is ∙ none refl))
-ready_from false needs Ready ready none is = ready refl
+-- an event that changes nothing, whatever is answered
+abbrev changes_nothing : Event → Bool
+changes_nothing (read keyspace table key type) = true
+changes_nothing (show workflow) = true
+changes_nothing other = false
+
+-- the same core
+same_core : (old new : CoreState) → new.base ≡ old.base → new.ways ≡ old.ways → new ≡ old
+same_core old new base ways = ap (λ (b : BaseState). record new { base = b }) base ∙ ap (λ (w : WaysState). record old { ways = w }) ways
+
+no_row_advanced : (p : Plain) (name : StreamName) (at most : ℕ) (v : RowValue) (w : Live) (o : Option Lane) → row (Some v) ≡ lane_advanced_of p name at most w o → ⊥
+no_row_advanced p name at most v w None is = absurd (cc is)
+no_row_advanced p name at most v w (Some lane) is = absurd (cc is)
+
+no_row_by : (p : Plain) (name : StreamName) (shard at most : ℕ) (v : RowValue) (o : Option Live) → row (Some v) ≡ advanced_of p name shard at most o → ⊥
+no_row_by p name shard at most v None is = absurd (cc is)
+no_row_by p name shard at most v (Some w) is = no_row_advanced p name at most v w (lane_at w shard) is
+
+no_show_advanced : (p : Plain) (name : StreamName) (at most : ℕ) (s : plain.Shown) (w : Live) (o : Option Lane) → plain.shown s ≡ lane_advanced_of p name at most w o → ⊥
+no_show_advanced p name at most s w None is = absurd (cc is)
+no_show_advanced p name at most s w (Some lane) is = absurd (cc is)
+
+no_show_by : (p : Plain) (name : StreamName) (shard at most : ℕ) (s : plain.Shown) (o : Option Live) → plain.shown s ≡ advanced_of p name shard at most o → ⊥
+no_show_by p name shard at most s None is = absurd (cc is)
+no_show_by p name shard at most s (Some w) is = no_show_advanced p name at most s w (lane_at w shard) is
+
+-- of what is taken only a read and a Show have an answer that may take memory
+looks_only : (p : Plain) (e : Event) (a : Result Reply code_refusal.Refusal) → Answers p e (answer_from a) → is_ok a ≡ true → may_stand_apart a ≡ true → changes_nothing e ≡ true
+looks_only p e (Err r) given ok long = absurd (true≢false (sym ok))
+looks_only p e (Ok reply.Done) given ok long = absurd (true≢false (sym long))
+looks_only p e (Ok (reply.Row None)) given ok long = absurd (true≢false (sym long))
+looks_only p e (Ok (reply.Advanced advanced)) given ok long = absurd (true≢false (sym long))
+looks_only p (read k t q ty) (Ok (reply.Row (Some v))) given ok long = refl
+looks_only p (show w) (Ok (reply.Row (Some v))) given ok long = refl
+looks_only p (advance w n s at most) (Ok (reply.Row (Some v))) given ok long = absurd (no_row_by p n s at most v (live_at p w) given.1)
+looks_only p (write k t o) (Ok (reply.Row (Some v))) given ok long = absurd (cc given.1)
+looks_only p (add_keyspace k cuts) (Ok (reply.Row (Some v))) given ok long = absurd (cc given.1)
+looks_only p (add_table k t) (Ok (reply.Row (Some v))) given ok long = absurd (cc given.1)
+looks_only p (edit_rule key target) (Ok (reply.Row (Some v))) given ok long = absurd (cc given.1)
+looks_only p (create w s t ts) (Ok (reply.Row (Some v))) given ok long = absurd (cc given.1)
+looks_only p (begin_switch w ts) (Ok (reply.Row (Some v))) given ok long = absurd (cc given.1)
+looks_only p (begin_reverse w ts) (Ok (reply.Row (Some v))) given ok long = absurd (cc given.1)
+looks_only p (step w at) (Ok (reply.Row (Some v))) given ok long = absurd (cc given.1)
+looks_only p (undo w at) (Ok (reply.Row (Some v))) given ok long = absurd (cc given.1)
+looks_only p (cancel w) (Ok (reply.Row (Some v))) given ok long = absurd (cc given.1)
+looks_only p (complete w) (Ok (reply.Row (Some v))) given ok long = absurd (cc given.1)
+looks_only p (read k t q ty) (Ok (reply.Shown s)) given ok long = refl
+looks_only p (show w) (Ok (reply.Shown s)) given ok long = refl
+looks_only p (advance w n sh at most) (Ok (reply.Shown s)) given ok long = absurd (no_show_by p n sh at most (shown_from s) (live_at p w) given.1)
+looks_only p (write k t o) (Ok (reply.Shown s)) given ok long = absurd (cc given.1)
+looks_only p (add_keyspace k cuts) (Ok (reply.Shown s)) given ok long = absurd (cc given.1)
+looks_only p (add_table k t) (Ok (reply.Shown s)) given ok long = absurd (cc given.1)
+looks_only p (edit_rule key target) (Ok (reply.Shown s)) given ok long = absurd (cc given.1)
+looks_only p (create w from t ts) (Ok (reply.Shown s)) given ok long = absurd (cc given.1)
+looks_only p (begin_switch w ts) (Ok (reply.Shown s)) given ok long = absurd (cc given.1)
+looks_only p (begin_reverse w ts) (Ok (reply.Shown s)) given ok long = absurd (cc given.1)
+looks_only p (step w at) (Ok (reply.Shown s)) given ok long = absurd (cc given.1)
+looks_only p (undo w at) (Ok (reply.Shown s)) given ok long = absurd (cc given.1)
+looks_only p (cancel w) (Ok (reply.Shown s)) given ok long = absurd (cc given.1)
+looks_only p (complete w) (Ok (reply.Shown s)) given ok long = absurd (cc given.1)
+
+looked : (scopes : List Scope) (may_answer : Answering) (old new : CoreState) (e : Event) (a : Answer) → changes_nothing e ≡ true → AppliesAndPurges scopes may_answer old e a new → new ≡ old
+looked scopes may_answer old new (read k t q ty) a is (made, (reads, ways), purges) = purges ∙ same_core old made reads.1 ways
+looked scopes may_answer old new (show w) a is (made, (shows, ways), purges) = purges ∙ same_core old made shows.1 ways
+looked scopes may_answer old new other a is does = absurd (true≢false (sym is))
+
+-- so what is answered so has changed nothing
+pub nothing_changed : (scopes : List Scope) (may_answer : Answering) (old new : CoreState) → IsCoreWith scopes old → (e : Event) (a : Result Reply code_refusal.Refusal)
+    → CoreSteps scopes old e (answer_from a) new → AppliesAndPurges scopes may_answer old e (answer_from a) new → OnErr a (new ≡ old) → may_stand_apart a ≡ true → new ≡ old
+nothing_changed scopes may_answer old new stood e (Err r) steps does same long = same
+nothing_changed scopes may_answer old new stood e (Ok x) steps does same long =
+    looked scopes may_answer old new e (answer_from (Ok x)) (∥∥₁_elim stood (hlevel props) (λ (p, stands). looks_only p e (Ok x) ((steps p stands).0) refl long)) does
+
+-- where an answer isn't kept, it may take memory
+pub long_where_refused : {T E : Type 0} (b : Bool) (r : Result T E) → (b ≡ false → IsOk r) → ((x : T) → r ≡ Ok x → ⊥) → b ≡ true
+long_where_refused true r short isnt = refl
+long_where_refused false (Ok x) short isnt = absurd (isnt x refl)
+long_where_refused false (Err e) short isnt = absurd (true≢false (sym (short refl)))
+
+-- one that is always kept in place is kept
+pub kept_where_short : {T E : Type 0} (b : Bool) (r : Result T E) → (b ≡ false → IsOk r) → ((x : T) → r ≡ Ok x → ⊥) → b ≡ false → ⊥
+kept_where_short b r short isnt is = true≢false (sym (long_where_refused b r short isnt) ∙ is)
+
+-- what is so of a refusal is so where it isn't taken
+pub at_err : {T E P : Type 0} (r : Result T E) → ((x : T) → r ≡ Ok x → ⊥) → OnErr r P → P
+at_err (Ok x) isnt said = absurd (isnt x refl)
+at_err (Err e) isnt said = said

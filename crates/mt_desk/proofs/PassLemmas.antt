@@ -1,5 +1,5 @@
 -- What some passes list.
-use Rattle.std.proofs.Common.{◌≡◌, ℕ, List}
+use Rattle.std.proofs.Common.{ℕ, List}
 use Rattle.std.proofs.Math.Logic.{∥∥₁_elim, ∥∥₁_map}
 use Rattle.mt_model.specs.declared.entries.Scope.{Scope}
 use Rattle.mt_plain.specs.Answers.{IsLegal}

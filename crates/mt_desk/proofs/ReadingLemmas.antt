@@ -1,15 +1,13 @@
 -- What passes list, read beside a history.
 use Rattle.std.specs.Prelude.{IfOk, IfSome, Result, Ok, Err, slice_get}
-use Rattle.std.proofs.Common.{◌≡◌, ◌∙◌, ◌==◌, ◌⊎◌, inl, inr, ℕ, zero, suc, ◌+◌, ◌-◌, ◌<◌, ◌≤◌, ◌≢◌, add-one, Bool, true, false, All, Contains, List, [], ◌∷◌, ◌++◌, get_or, length, map, set, take, drop, Option, None, Some, refl, sym, ap, subst, arith, length-append}
-use Rattle.std.proofs.lemmas.Bool.{true≢false}
-use Rattle.std.proofs.lemmas.Bool.Decides.{nat_tests}
+use Rattle.std.proofs.Common.{◌≡◌, ◌∙◌, ◌==◌, inl, inr, ℕ, zero, suc, ◌+◌, ◌-◌, ◌<◌, ◌≤◌, add-one, Bool, true, false, Contains, List, [], ◌∷◌, ◌++◌, get_or, length, map, set, take, drop, Option, None, Some, refl, sym, ap, subst, arith}
 use Rattle.std.proofs.lemmas.List.{get_or-set_other, get_or-set_same, length-take-le, take-append-drop, take_all, take_more}
 use Rattle.std.proofs.lemmas.Option.{get_or_from_slice_get}
 use Rattle.mt_desk.specs.declared.history.Call.{Call}
 use Rattle.mt_desk.specs.declared.history.Line.{Line}
 use Rattle.mt_desk.specs.Histories.{call_of, calls_of}
 use Rattle.mt_desk.specs.Numbers.{AreNumbers, AreRead, IsNumber, IsReadBy}
-use Rattle.mt_desk.specs.Passes.{Differs, IsStranger, ListsCalls, ListsOthers, has_pass}
+use Rattle.mt_desk.specs.Passes.{Differs, ListsOthers}
 use Rattle.mt_desk.proofs.CallLemmas.{calls_append, calls_more}
 use Rattle.mt_desk.proofs.NumberLemmas.{agree, are_same, differ, has_none, some_of}
 

@@ -3,7 +3,6 @@ ghost use Rattle.std.specs.Prelude.{◌≡◌, ◌+◌, ◌≤◌, ◌++◌, Lis
 ghost use Rattle.std.specs.Vec.{vec_capacity, vec_len};
 ghost use Rattle.mt_event.specs.declared.reply.Reply.TheVariants.{Done};
 ghost use Rattle.mt_event.specs.Events.{answer_from, event_of};
-ghost use Rattle.mt_event.specs.Rooms.{IsReady};
 ghost use Rattle.mt_plain.specs.Events as plain;
 ghost use Rattle.mt_plain.specs.Plain.{Plain};
 ghost use Rattle.mt_laws.specs.Headline.{Headline};
@@ -21,7 +20,7 @@ ghost use Rattle.mt_watch.specs.Asking.{IsTold};
 ghost use Rattle.mt_desk.specs.Fronts.{AreFronts, AsksNone, Changes, Published, Tells};
 ghost use Rattle.mt_desk.specs.Histories.{Leads, StaysPurged, answered, asked, line};
 ghost use Rattle.mt_desk.specs.Passes.{Admits, Compares, HaveOneHistory, IsCaused};
-ghost use Rattle.mt_desk.specs.Room.{HasRoom, is_undo_or_cancel};
+ghost use Rattle.mt_desk.specs.Room.{HasRoom};
 
 use crate::answered::answered;
 use crate::history::Line;
@@ -32,16 +31,16 @@ use crate::room::{make_room, new_history};
 use crate::tell::{first_of, next_of};
 use crate::{DeskFault, DeskName, Pass};
 use indexmap::IndexSet;
-use mt_event::{CompactAnswer, CompactEvent, Event, Room};
+use mt_event::{CompactAnswer, CompactEvent, Event};
 use mt_laws::{
     each_event_owes_one_at_most, every_run_keeps_the_headline, routes_of_what_is_served_are_a_view,
 };
-use mt_routes::{Front, Head, Next, Opened, Router, RoutersFull, Shown, Told};
+use mt_routes::{Front, Head, Next, Opened, Publisher, Router, RoutersFull, Told};
 use mt_site::{Core, a_base_owes_what_its_state_owes};
 use mt_watch::Asks;
 use std::alloc::Global;
 use std::sync::ledger::Blank;
-use std::sync::{Arc, Wait, ledger};
+use std::sync::{Wait, ledger};
 
 /// The core of the controller, with the history of all that was asked of it since the desk was opened. The history is always legal,
 /// and leads from each state that the core stood for at the opening to one that it stands for now. It keeps a place free for each
@@ -50,17 +49,17 @@ use std::sync::{Arc, Wait, ledger};
 pub struct Book<D: DeskName> {
     core: Core,
     history: Vec<Line>,
-    answers: Room,
     clients: IndexSet<u16>,
     numbers: Numbers,
     ledger: ledger::Book<D>,
     head: Head<D>,
     told: Told<D>,
-    shown: Arc<Shown<D>>,
+    publisher: Publisher<D>,
     ghost legal: { ∥ Leads D.scopes D.opening history.items core ∥₁ },
     ghost purged: { ∥ StaysPurged D.opening core ∥₁ },
     ghost room: { HasRoom (vec_len history) core (vec_capacity history) },
     ghost fronts: { ∥ AreFronts D.scopes D.opening history.items told ∥₁ },
+    ghost shown: { publisher.share.amount ≡ length told },
 }
 
 impl<D: DeskName> Book<D> {
@@ -74,7 +73,7 @@ impl<D: DeskName> Book<D> {
         core: Core,
     ) -> Result<Self, DeskFault>
         requires name { (blank.name ≡ D.name) × (blank.parts ≡ D.parts) }
-        requires list { opened.seen.book ≡ D.book }
+        requires list { (opened.seen.book ≡ D.book) × (opened.blank.name ≡ D.shown) }
         requires opening { core ≡ D.opening }
         requires stood { IsCoreWith D.scopes core }
         ensures core { IfOk result (λ book. book.core ≡ core) }
@@ -86,12 +85,11 @@ impl<D: DeskName> Book<D> {
         let Some((history, numbers, first)) = first_lists(alloc, &core) else {
             return Err(DeskFault::Memory);
         };
-        let (head, first) = begun(rt, opened, first);
-        let Ok(shown) = Shown::open(alloc, first) else {
+        let Ok(list) = begun::<D, R>(rt, opened, first).shown(alloc) else {
             return Err(DeskFault::Memory);
         };
         let (ledger, _) = blank.open::<D>();
-        Ok(Book::begun(core, history, numbers, ledger, head, shown))
+        Ok(Book::begun(core, history, numbers, ledger, list))
     }
 
     /// A book with a history without lines, which has a place for each event that is owed, and a list of one publication.
@@ -100,38 +98,38 @@ impl<D: DeskName> Book<D> {
         history: Vec<Line>,
         numbers: Numbers,
         ledger: ledger::Book<D>,
-        head: Head<D>,
-        shown: (Arc<Shown<D>>, Told<D>),
+        list: (Head<D>, Publisher<D>, Told<D>),
     ) -> Self
         requires opening { core ≡ D.opening }
         requires stood { IsCoreWith D.scopes core }
         requires none { history.items ≡ [] }
         requires room { vec_len history + owed_to core.base.workflows ≤ vec_capacity history }
-        requires first { shown.1 ≡ publication 0 (routes_of core.base.topology) ∷ [] }
+        requires first { list.2 ≡ publication 0 (routes_of core.base.topology) ∷ [] }
+        requires shown { list.1.share.amount ≡ length list.2 }
         ensures core { result.core ≡ core }
         ensures history { result.history ≡ history }
         ensures clients { result.clients.keys ≡ [] }
-        ensures told { result.told ≡ shown.1 }
+        ensures told { result.told ≡ list.2 }
     {
         routes_of_what_is_served_are_a_view();
-        let (shown, told) = shown;
+        let (head, publisher, told) = list;
         let alloc = *history.allocator();
         Book {
             core,
             history,
-            answers: Room::new(alloc),
             clients: IndexSet::new(alloc),
             numbers,
             ledger,
             head,
             told,
-            shown,
+            publisher,
         }
     }
 
-    /// What is known of the list of publications, which are those of the history.
+    /// What is known of the list of publications, which are those of the history. Routers are shown all of them.
     pub fn told(&self) -> &Told<D>
         ensures list { result.now ≡ self.now.told }
+        ensures shown { self.now.publisher.share.amount ≡ length result.now }
         ensures fronts { ∥ AreFronts D.scopes D.opening self.now.history.items result.now ∥₁ }
         ensures published { Published D.scopes D.opening result.now }
     {
@@ -145,7 +143,7 @@ impl<D: DeskName> Book<D> {
         ensures published { IfOk result (λ router. Published D.scopes D.opening router) }
     {
         match self.told().again() {
-            Ok(known) => Router::new(&self.shown, known),
+            Ok(known) => self.publisher.router(known),
             Err(_) => Err(RoutersFull),
         }
     }
@@ -164,10 +162,10 @@ impl<D: DeskName> Book<D> {
         let Book {
             head,
             told,
-            shown,
+            publisher,
             ..
         } = self;
-        let (kept, answer) = shown.show(rt, added(rt, head, told, next));
+        let (kept, answer) = publisher.show(rt, added(rt, head, told, next));
         *told = kept;
         answer
     }
@@ -203,22 +201,19 @@ impl<D: DeskName> Book<D> {
         Ok(self.publish(rt, next))
     }
 
-    /// Applies an event, as `Core::apply` tells, and adds its line to the history. The line keeps `kept`, which is the event, and the answer; what is
-    /// answered is a second copy of that, for which `room` has to be there where it may need some. `K0 Memory` where there is no place for the line
-    /// and for the events that are owed, or no room for the line's answer: then no event was taken. Nothing is published. An undo with the
-    /// right number before the journal, and a Cancel where nothing is switched and no way is open, take no memory and are done. (Vitess: a
-    /// vtctldclient command, or a query at a primary)
+    /// Applies an event, as `Core::apply` tells, and adds its line to the history. The line keeps `kept`, which is the event, and the answer, which whoever
+    /// asked shares. `K0 Memory` where there is no place for the line and for the events that are owed, or no memory for the answer to a read or a Show,
+    /// or for a refusal that tells a name: then no event was taken. Nothing is published. An undo with the right number before the journal, and a
+    /// Cancel where nothing is switched and no way is open, take no memory and are done. (Vitess: a vtctldclient command, or a query at a primary)
     pub fn take<W: Asks>(
         &mut self,
         watchers: &W,
         client: u16,
         event: &Event,
         kept: CompactEvent,
-        room: &mut Room,
     ) -> Result<CompactAnswer, DeskFault>
         requires scopes { W.scopes watchers.now ≡ D.scopes }
         requires kept { kept ≡ event.now }
-        requires ready { is_undo_or_cancel (event_of event.now) ≡ false → IsReady room.old }
         ensures line { IfOk result (λ r. self.new.history.items ≡ self.old.history.items ++ line client event.now r ∷ []) }
         ensures applies { IfOk result (λ r. AppliesAndPurges (W.scopes watchers.now) (W.may_answer watchers.now) self.old.core (event_of event.now) (answer_from r) self.new.core) }
         ensures steps { IfOk result (λ r. CoreSteps (W.scopes watchers.now) self.old.core (event_of event.now) (answer_from r) self.new.core) }
@@ -232,16 +227,14 @@ impl<D: DeskName> Book<D> {
     {
         each_event_owes_one_at_most();
         a_base_owes_what_its_state_owes();
-        let Book {
-            core,
-            history,
-            answers,
-            ..
-        } = self;
-        if !make_room(history, answers, core, event) {
+        let Book { core, history, .. } = self;
+        if !make_room(history, core, event) {
             return Err(DeskFault::Memory);
         }
-        let (answer, told) = answered(core, watchers, event, answers, room);
+        let alloc = *history.allocator();
+        let Ok((answer, told)) = answered(alloc, core, watchers, event) else {
+            return Err(DeskFault::Memory);
+        };
         history.push_reserved(Line {
             client,
             event: kept,

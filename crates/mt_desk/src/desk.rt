@@ -41,7 +41,7 @@ impl<D: DeskName, W: Asks + Drop> Desk<D, W> {
         site: Site<W>,
     ) -> Result<Self, DeskFault>
         requires name { (blank.name ≡ D.name) × (blank.parts ≡ D.parts) }
-        requires list { opened.seen.book ≡ D.book }
+        requires list { (opened.seen.book ≡ D.book) × (opened.blank.name ≡ D.shown) }
         requires opening { site.core ≡ D.opening }
         requires scopes { W.scopes site.watchers ≡ D.scopes }
         requires stood { IsCoreWith D.scopes site.core }
@@ -66,30 +66,28 @@ impl<D: DeskName, W: Asks + Drop> Desk<D, W> {
     }
 
     /// Asks for an event, and adds it with its answer to what the pass lists: `K0 Memory`, where the pass or the history found no
-    /// place for it; then no event was taken. It is one period under the lock, and one event. What is kept of the event is copied before.
-    /// Where the pass has a place, an undo or a Cancel that can give its move up as the controller stands then is done, and takes no memory:
-    /// see `Book::take`.
+    /// place for it; then no event was taken. It is one period under the lock, and one event. What is long of the event and of its answer the pass
+    /// shares with the history. Where the pass has a place, an undo or a Cancel that can give its move up as the controller stands then is done,
+    /// and takes no memory: see `Book::take`.
     pub fn ask(&self, rt: &impl Wait, pass: &mut Pass<D>, event: Event) -> Result<Answer, DeskFault>
         ensures client { pass.new.client ≡ pass.old.client }
         ensures adds { IfOk result (λ r. pass.new.calls.items ≡ pass.old.calls.items ++ call event r ∷ []) }
         ensures none { OnErr result (pass.new.calls.items ≡ pass.old.calls.items) }
         ensures memory { IfErr result (λ fault. fault ≡ DeskFault.Memory) }
+        ensures places { length pass.old.calls.items < vec_capacity pass.old.calls → vec_capacity pass.new.calls ≡ vec_capacity pass.old.calls }
         ensures taken { OnOk result (IsTaken D.scopes D.opening pass.old.client event result) }
         ensures given_up { length pass.old.calls.items < vec_capacity pass.old.calls → is_undo_or_cancel (event_of event) ≡ true
             → IsTaken D.scopes D.opening pass.old.client event result }
     {
-        pass.make_place(&event)?;
-        let Ok(call) = CompactEvent::new(self.alloc, &event) else {
-            return Err(DeskFault::Memory);
-        };
+        pass.make_place()?;
         let Ok(line) = CompactEvent::new(self.alloc, &event) else {
             return Err(DeskFault::Memory);
         };
+        let Ok(call) = line.again() else {
+            return Err(DeskFault::Memory);
+        };
         let client = pass.client();
-        let taken = self
-            .locked
-            .lock(rt)
-            .take(client, &event, line, &mut pass.room);
+        let taken = self.locked.lock(rt).take(client, &event, line);
         let told = match taken {
             Ok(told) => told,
             Err(fault) => return Err(fault),

@@ -21,7 +21,7 @@ pub use book::Book;
 pub use desk::Desk;
 pub use fault::DeskFault;
 pub use history::{Call, Line};
-pub use mt_event::{Answer, CompactAnswer, CompactEvent, Room};
+pub use mt_event::{Answer, CompactAnswer, CompactEvent};
 pub use mt_routes::{Front, Opened, Router, Told};
 pub use name::DeskName;
 pub use pass::Pass;

@@ -2,20 +2,20 @@
 ghost use Rattle.std.specs.Prelude.{◌≡◌, ◌≤◌, ◌++◌, [], ◌∷◌};
 ghost use Rattle.mt_routes.specs.Publications.{last_front};
 
-use mt_routes::{Added, Head, Naming, Next, Opened, Told};
+use mt_routes::{Added, Begun, Head, Naming, Next, Opened, Told};
 use std::sync::Wait;
 
 /// How many publications a list has at most.
 const LONGEST: u64 = 1 << 62;
 
-/// The head of a list under its name, and the first publication, which was added to it. It takes no memory. It waits for ever where
-/// another was added before, as nobody does: only the list's head adds, and it is made here.
-pub(crate) fn begun<J: Naming, R: Wait>(rt: &R, opened: Opened, first: Next) -> (Head<J>, Added<J>)
-    requires { opened.seen.book ≡ J.book }
-    ensures { result.1 ≡ first ∷ [] }
+/// A list under its name, with its first publication, which isn't shown yet. It takes no memory. It waits for ever where another was added
+/// before, as nobody does: only the list's head adds, and it is made here.
+pub(crate) fn begun<J: Naming, R: Wait>(rt: &R, opened: Opened, first: Next) -> Begun<J>
+    requires { (opened.seen.book ≡ J.book) × (opened.blank.name ≡ J.shown) }
+    ensures { result.first ≡ first ∷ [] }
 {
-    if let Some(both) = opened.named::<J>(first) {
-        return both;
+    if let Some(begun) = opened.named::<J>(first) {
+        return begun;
     }
     stop(rt);
     unreachable!()

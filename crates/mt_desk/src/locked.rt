@@ -1,16 +1,13 @@
 //! What lies under the lock.
 ghost use Rattle.std.specs.Prelude.{◌≡◌, ◌⊎◌, false, true, IfErr, IfOk, OnOk, map};
-ghost use Rattle.mt_event.specs.Events.{event_of};
-ghost use Rattle.mt_event.specs.Rooms.{IsReady};
 ghost use Rattle.mt_model.specs.declared.entries.Scope.TheVariants.{Routes};
 ghost use Rattle.mt_watch.specs.Scopes.{has_scope};
 ghost use Rattle.mt_desk.specs.Taken.{IsTaken};
 ghost use Rattle.mt_desk.specs.Fronts.{Published, Tells, TellsNone};
 ghost use Rattle.mt_desk.specs.Passes.{HaveOneHistory, IsCaused};
-ghost use Rattle.mt_desk.specs.Room.{is_undo_or_cancel};
 
 use crate::{Book, DeskFault, DeskName, Pass};
-use mt_event::{CompactAnswer, CompactEvent, Event, Room};
+use mt_event::{CompactAnswer, CompactEvent, Event};
 use mt_routes::{Router, Told};
 use mt_watch::Asks;
 use std::alloc::Global;
@@ -31,15 +28,13 @@ impl<D: DeskName, W: Asks + Drop> Locked<D, W> {
         client: u16,
         event: &Event,
         kept: CompactEvent,
-        room: &mut Room,
     ) -> Result<CompactAnswer, DeskFault>
-        requires kept { kept ≡ event.now }
-        requires ready { is_undo_or_cancel (event_of event.now) ≡ false → IsReady room.old }
+        requires { kept ≡ event.now }
         ensures taken { IsTaken D.scopes D.opening client event.now result }
         ensures memory { IfErr result (λ fault. fault ≡ DeskFault.Memory) }
     {
         let Locked { book, watchers, .. } = self;
-        book.take(watchers, client, event, kept, room)
+        book.take(watchers, client, event, kept)
     }
 
     /// See `Book::admit`.

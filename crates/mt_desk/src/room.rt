@@ -1,14 +1,13 @@
 //! The places that the history keeps free, so that each move can always be given up.
-ghost use Rattle.std.specs.Prelude.{◌≡◌, ◌+◌, ◌<◌, ◌≤◌, [], false, true, IfErr, IfOk, IsOk, OnOk};
+ghost use Rattle.std.specs.Prelude.{◌≡◌, ◌+◌, ◌<◌, ◌≤◌, [], false, true, IfOk, IsOk};
 ghost use Rattle.std.specs.Vec.{vec_capacity, vec_len};
 ghost use Rattle.mt_event.specs.Events.{event_of};
 ghost use Rattle.mt_workflow.specs.Workflows.{way_from};
 ghost use Rattle.mt_site.specs.Owed.{owed_to};
-ghost use Rattle.mt_event.specs.Rooms.{IsReady};
-ghost use Rattle.mt_desk.specs.Room.{can_cancel, can_undo, gives_up, is_undo_or_cancel};
+ghost use Rattle.mt_desk.specs.Room.{can_cancel, can_undo, gives_up};
 
-use crate::{DeskFault, Line};
-use mt_event::{Event, Room};
+use crate::Line;
+use mt_event::Event;
 use mt_site::Core;
 use mt_workflow::{Way, Workflow};
 use std::alloc::{AllocError, Global};
@@ -49,36 +48,9 @@ pub(crate) fn gives_up(core: &Core, event: &Event) -> bool
     }
 }
 
-/// Whether an event is an undo or a Cancel. It takes no memory.
-fn is_undo_or_cancel(event: &Event) -> bool
-    ensures { result ≡ is_undo_or_cancel (event_of event.now) }
-{
-    matches!(event, Event::Undo { .. } | Event::Cancel { .. })
-}
-
-/// Makes room for the answer to an event, if that may need some: `K0 Memory`. It takes none for an undo or a Cancel.
-pub(crate) fn make_ready(room: &mut Room, event: &Event) -> Result<(), DeskFault>
-    ensures ready { OnOk result (is_undo_or_cancel (event_of event.now) ≡ false → IsReady room.new) }
-    ensures short { is_undo_or_cancel (event_of event.now) ≡ true → IsOk result }
-    ensures memory { IfErr result (λ fault. fault ≡ DeskFault.Memory) }
-{
-    if is_undo_or_cancel(event) {
-        return Ok(());
-    }
-    match room.make() {
-        Ok(()) => Ok(()),
-        Err(_) => Err(DeskFault::Memory),
-    }
-}
-
-/// Makes the places that a history needs before an event, and room for its answer, and says whether they are there. An event that gives a move up
-/// finds its own place, and for it nothing grows; before each other there are then at least two more than are owed.
-pub(crate) fn make_room(
-    history: &mut Vec<Line>,
-    room: &mut Room,
-    core: &Core,
-    event: &Event,
-) -> bool
+/// Makes the places that a history needs before an event, and says whether they are there. An event that gives a move up finds its own place, and for
+/// it nothing grows; before each other there are then at least two more than are owed.
+pub(crate) fn make_room(history: &mut Vec<Line>, core: &Core, event: &Event) -> bool
     ensures items { history.new.items ≡ history.old.items }
     ensures len { vec_len history.new ≡ vec_len history.old }
     ensures place { result ≡ true → vec_len history.new < vec_capacity history.new }
@@ -87,13 +59,9 @@ pub(crate) fn make_room(
     ensures found { gives_up core.now (event_of event.now) ≡ true → vec_len history.old < vec_capacity history.old → result ≡ true }
     ensures others { gives_up core.now (event_of event.now) ≡ false → result ≡ true
         → vec_len history.old + owed_to core.now.base.workflows + 2 ≤ vec_capacity history.new }
-    ensures ready { gives_up core.now (event_of event.now) ≡ false → result ≡ true → IsReady room.new }
 {
     if gives_up(core, event) {
         return history.len() < history.capacity();
-    }
-    if room.make().is_err() {
-        return false;
     }
     match core.owed().checked_add(2) {
         Some(places) => history.reserve(places).is_ok(),

@@ -8,7 +8,7 @@ ghost use Rattle.mt_desk.specs.Histories.{line};
 ghost use Rattle.mt_desk.specs.Room.{is_undo_or_cancel};
 ghost use Rattle.mt_desk_tests.specs.GivenUp.{AreGivenUp, AreListed, Leaves};
 
-use mt_desk::{Answer, Book, CompactEvent, DeskFault, DeskName, Opened, Room};
+use mt_desk::{Answer, Book, CompactEvent, DeskFault, DeskName, Opened};
 use mt_event::Event;
 use mt_names::WorkflowName;
 use mt_site::Core;
@@ -45,8 +45,7 @@ fn take_back<D: DeskName, W: Asks>(
     let Ok(kept) = CompactEvent::new(alloc, event) else {
         return Err(DeskFault::Memory);
     };
-    let mut room = Room::new(alloc);
-    let told = book.take(watchers, 0, event, kept, &mut room)?;
+    let told = book.take(watchers, 0, event, kept)?;
     Ok(told.copied())
 }
 
@@ -92,7 +91,7 @@ fn give_up_anew<D: DeskName, W: Asks, R: Wait>(
     at: u64,
 ) -> Result<GivenUp, DeskFault>
     requires name { (blank.name ≡ D.name) × (blank.parts ≡ D.parts) }
-    requires list { opened.seen.book ≡ D.book }
+    requires list { (opened.seen.book ≡ D.book) × (opened.blank.name ≡ D.shown) }
     requires opening { core ≡ D.opening }
     requires stood { IsCoreWith D.scopes core }
     requires scopes { W.scopes watchers.now ≡ D.scopes }

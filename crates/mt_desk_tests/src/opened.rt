@@ -191,7 +191,7 @@ fn at_a_desk<D: DeskName + Send + Sync, W: Asks + Drop + Send, R: Threads + Wait
     trial: Trial<'_>,
 ) -> Played
     requires name { (blank.name ≡ D.name) × (blank.parts ≡ D.parts) }
-    requires list { opened.seen.book ≡ D.book }
+    requires list { (opened.seen.book ≡ D.book) × (opened.blank.name ≡ D.shown) }
     requires opening { site.core ≡ D.opening }
     requires scopes { W.scopes site.watchers ≡ D.scopes }
     requires stood { IsCoreWith D.scopes site.core }

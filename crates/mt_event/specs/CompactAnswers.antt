@@ -1,5 +1,5 @@
 -- Answers, as they are kept (this profile's own).
-use Rattle.std.specs.Prelude.{⊤, Bool, true, false, Option, None, Some, Result, Ok, Err, slice_get, unwrap_or}
+use Rattle.std.specs.Prelude.{◌≡◌, ⊤, Bool, true, false, Option, None, Some, Result, Ok, Err}
 use Rattle.mt_event.specs.declared.reason.Reason.{Reason}
 use Rattle.mt_event.specs.declared.refusal.Refusal.{Refusal}
 use Rattle.mt_event.specs.declared.refusal.Refusal.TheVariants as refusal
@@ -14,10 +14,9 @@ abbrev pub answer_from : Told → Result Reply Refusal
 answer_from told.Done = Ok reply.Done
 answer_from told.NoRow = Ok (reply.Row None)
 answer_from (told.Row value) = Ok (reply.Row (Some value))
-answer_from (told.LongRow rows) = Ok (reply.Row (slice_get rows.items 0))
 answer_from (told.Advanced advanced) = Ok (reply.Advanced advanced)
 answer_from (told.Refused reason) = Err (refusal.Other reason)
-answer_from (told.Other answers) = unwrap_or (slice_get answers.items 0) (Ok reply.Done)
+answer_from (told.Other answer) = answer.value
 
 -- the answer to a write, from what the core tells
 abbrev pub write_answer : Result ⊤ Reason → Result Reply Refusal
@@ -30,11 +29,16 @@ read_answer (Ok row) = Ok (reply.Row row)
 read_answer (Err reason) = Err (refusal.Other reason)
 
 -- an answer that may not stand in place: a row, what Show tells, a refusal that tells a name
-abbrev pub needs_room : Result Reply Refusal → Bool
-needs_room (Ok reply.Done) = false
-needs_room (Ok (reply.Row None)) = false
-needs_room (Ok (reply.Row (Some value))) = true
-needs_room (Ok (reply.Advanced advanced)) = false
-needs_room (Ok (reply.Shown shown)) = true
-needs_room (Err (refusal.Other reason)) = false
-needs_room (Err other) = true
+abbrev pub may_stand_apart : Result Reply Refusal → Bool
+may_stand_apart (Ok reply.Done) = false
+may_stand_apart (Ok (reply.Row None)) = false
+may_stand_apart (Ok (reply.Row (Some value))) = true
+may_stand_apart (Ok (reply.Advanced advanced)) = false
+may_stand_apart (Ok (reply.Shown shown)) = true
+may_stand_apart (Err (refusal.Other reason)) = false
+may_stand_apart (Err other) = true
+
+-- no other answer takes memory of its own
+abbrev pub IsApart : Told → Type 0
+IsApart (told.Other answer) = may_stand_apart answer.value ≡ true
+IsApart other = ⊤

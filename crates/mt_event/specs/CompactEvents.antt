@@ -1,5 +1,5 @@
 -- Events, as they are kept (this profile's own).
-use Rattle.std.specs.Prelude.{Bool, true, false, List, ℕ}
+use Rattle.std.specs.Prelude.{◌≡◌, ⊤, Bool, true, false, List, ℕ}
 use Rattle.mt_event.specs.declared.event.Event.{Event}
 use Rattle.mt_event.specs.declared.event.Event.TheVariants as event
 use Rattle.mt_event.specs.declared.compact.events.Asked.{Asked}
@@ -36,3 +36,8 @@ is_in_place (event.Cancel workflow) = true
 is_in_place (event.Complete workflow) = true
 is_in_place (event.Show workflow) = true
 is_in_place other = false
+
+-- no other event takes memory of its own
+abbrev pub IsApart : Asked → Type 0
+IsApart (asked.Other all) = is_in_place all.value ≡ false
+IsApart other = ⊤

@@ -5,5 +5,4 @@ pub mod Drives
 pub mod Events
 pub mod Kinds
 pub mod Reasons
-pub mod Rooms
 pub mod Same

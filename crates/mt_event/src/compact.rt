@@ -2,11 +2,8 @@
 
 mod answers;
 mod events;
-mod keeping;
 mod names;
 mod ops;
-mod room;
 
 pub use answers::{Answer, CompactAnswer, copied_answer};
 pub use events::CompactEvent;
-pub use room::Room;

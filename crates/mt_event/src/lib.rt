@@ -11,7 +11,7 @@ mod refusal;
 mod reply;
 mod tables;
 
-pub use compact::{Answer, CompactAnswer, CompactEvent, Room, copied_answer};
+pub use compact::{Answer, CompactAnswer, CompactEvent, copied_answer};
 pub use driven::Driven;
 pub use event::Event;
 pub use lanes::{ShownLane, ShownStream};

@@ -312,7 +312,7 @@ fn race_named<
     writes: u16,
 ) -> Result<Raced, RaceFault>
     requires name { (blank.name ≡ D.name) × (blank.parts ≡ D.parts) }
-    requires list { opened.seen.book ≡ D.book }
+    requires list { (opened.seen.book ≡ D.book) × (opened.blank.name ≡ D.shown) }
     requires opening { site.core ≡ D.opening }
     requires scopes { W.scopes site.watchers ≡ D.scopes }
     requires stood { IsCoreWith D.scopes site.core }

@@ -4,17 +4,20 @@ ghost use Rattle.mt_routes.specs.Publications.{Rises, last_front};
 ghost use Rattle.mt_routes.specs.Rules.{head_of};
 
 use crate::law::{Add, Nothing};
-use crate::{Added, Law, Naming, Next, Publication, Told};
+use crate::{Added, Begun, Law, Naming, Next, Publication, Told};
 use logbook::{Offer, Seen, Start, Word};
 use std::marker::PhantomData;
+use std::sync::ledger::Blank;
 
-/// An empty list, which has no name yet.
+/// An empty list, which has no name yet, and the ledger that is to count what of it is shown.
 #[derive(Drop)]
 pub struct Opened {
     word: Word<Publication, u64, Law>,
     pub seen: Seen<Publication, u64, Law>,
+    pub blank: Blank,
     pub ghost empty: { seen.log ≡ [] },
     pub ghost word_is: { word ≡ head_of seen.book },
+    pub ghost one: { blank.parts ≡ 1 },
 }
 
 impl Opened {
@@ -24,22 +27,23 @@ impl Opened {
         Opened {
             word: Word::tracked(0, &mut first),
             seen,
+            blank: Blank::new(1),
         }
     }
 
-    /// The list's head under a name, and the first publication, which was added to it. There is none where another was added before, as
+    /// The list under a name, with its first publication, which isn't shown yet. There is none where another was added before, as
     /// nobody does who hasn't the list's head. It takes no memory.
-    pub fn named<J: Naming>(self, first: Next) -> Option<(Head<J>, Added<J>)>
-        requires { self.seen.book ≡ J.book }
-        ensures { IfSome result (λ r. r.1 ≡ first ∷ []) }
+    pub fn named<J: Naming>(self, first: Next) -> Option<Begun<J>>
+        requires { (self.seen.book ≡ J.book) × (self.blank.name ≡ J.shown) }
+        ensures { IfSome result (λ begun. begun.first ≡ first ∷ []) }
     {
-        let Opened { word, seen } = self;
+        let Opened { word, seen, blank } = self;
         let head = Head {
             word,
             of: PhantomData,
         };
-        let added = head.add(0, seen, first)?;
-        Some((head, added))
+        let first = head.add(0, seen, first)?;
+        Some(Begun { head, first, blank })
     }
 }
 

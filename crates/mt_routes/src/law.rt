@@ -52,13 +52,18 @@ impl Plain<Next, Publication, u64> for Add {
     ghost state = { λ next. None };
 }
 
-/// Which list of publications it is. Each call of a program picks it.
+/// Which list of publications it is, and which ledger counts those that are shown. Each call of a program picks both.
 pub trait Naming {
+    ghost use Rattle.std.specs.Prelude.{ℕ};
     ghost use Rattle.logbook.specs.Pages.{Book};
 
     ghost book: { Book };
+
+    ghost shown: { ℕ };
 }
 
 impl Naming for Brand {
     ghost book = { record { number = 0; log_name = 0; cells_name = 0 } };
+
+    ghost shown = { 0 };
 }

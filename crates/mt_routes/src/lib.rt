@@ -12,6 +12,7 @@ mod laws;
 mod maps;
 mod places;
 mod publication;
+mod publisher;
 mod router;
 mod shown;
 mod told;
@@ -28,7 +29,8 @@ pub use laws::{
 };
 pub use places::Places;
 pub use publication::{Front, Next, Publication};
+pub use publisher::{Begun, Publisher};
 pub use router::{MAX_ROUTERS, Router, RoutersFull};
-pub use shown::Shown;
+pub use shown::Counts;
 pub use told::Told;
 pub use turn::{Place, Turn};

@@ -4,7 +4,8 @@ ghost use mathlib.Core.List.{IsPrefix};
 ghost use Rattle.mt_routes.specs.LookUp.{Routes};
 ghost use Rattle.mt_routes.specs.Publications.{last_front};
 
-use crate::{Front, Naming, Shown, Told};
+use crate::shown::Shown;
+use crate::{Front, Naming, Told};
 use mt_model::TopologyFault;
 use mt_names::{RuleKey, RuleTarget, TabletType};
 use std::marker::Model;
@@ -39,7 +40,7 @@ impl<J: Naming> Model for Router<J> {
 impl<J: Naming> Router<J> {
     /// A router that is shown this, and knows of the list what it is told. `RoutersFull` where there are eight, beside the one owner that
     /// shows it, and where owners can't be counted any further.
-    pub fn new(shown: &Arc<Shown<J>>, told: Told<J>) -> Result<Router<J>, RoutersFull>
+    pub(crate) fn new(shown: &Arc<Shown<J>>, told: Told<J>) -> Result<Router<J>, RoutersFull>
         ensures { IfOk result (λ router. router ≡ told) }
     {
         if Arc::strong_count(shown) > MAX_ROUTERS {
@@ -53,7 +54,7 @@ impl<J: Naming> Router<J> {
 
     /// Where a name leads for a type, by the last publication that the router knows of, with the front of that; or why it leads nowhere,
     /// with the front: `T2 NoTable`, where no keyspace has the table, and `T3 Ambiguous`, where several have it and the name says none.
-    /// Before that it takes over what is shown, if that is later and isn't just being replaced. It waits for nobody and takes no memory.
+    /// Before that it takes over what is shown, if that is later and nobody else is at it. It waits for nobody and takes no memory.
     pub fn route(
         &mut self,
         key: &RuleKey,

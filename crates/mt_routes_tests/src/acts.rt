@@ -135,7 +135,7 @@ fn plays<J: Naming, R: Wait>(
     opened: Opened,
     acts: &[Act<'_>],
 ) -> Option<usize>
-    requires { opened.seen.book ≡ J.book }
+    requires { (opened.seen.book ≡ J.book) × (opened.blank.name ≡ J.shown) }
 {
     let said = [Said::Rule("x", "a.t"), Said::Table("a", "u")];
     let made: Option<Scene<J>> = Scene::of(alloc, opened, 0, &said);
@@ -309,7 +309,7 @@ fn is_newest_so<J: Naming>(routers: &mut Vec<Router<J>>) -> bool {
 /// Whether there are eight places for routers, one is free again behind a router that is dropped, and routers answer as before once
 /// nobody shows anything any more.
 fn has_eight_places<J: Naming>(alloc: Global, opened: Opened) -> bool
-    requires { opened.seen.book ≡ J.book }
+    requires { (opened.seen.book ≡ J.book) × (opened.blank.name ≡ J.shown) }
 {
     let made: Option<Scene<J>> = Scene::of(alloc, opened, 5, &[Said::Rule("x", "a.t")]);
     let Some(scene) = made else {

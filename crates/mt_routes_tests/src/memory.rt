@@ -61,7 +61,7 @@ fn are_all_published<J: Naming, R: Wait>(
 /// Whether each is published at a new list and to a new router, where what is refused is asked for again. Where there is no memory for what
 /// routers are shown there is no list.
 fn are_published<J: Naming, R: Wait>(rt: &R, alloc: Global, opened: Opened) -> bool
-    requires { opened.seen.book ≡ J.book }
+    requires { (opened.seen.book ≡ J.book) × (opened.blank.name ≡ J.shown) }
 {
     let Some(first) = topology_at(alloc, 0) else {
         return false;
@@ -116,7 +116,7 @@ fn are_answered<J: Naming, R: Wait>(
 
 /// Whether it does so at a new list, if there was memory for the list.
 fn are_answered_anew<J: Naming, R: Wait>(rt: &R, alloc: Global, opened: Opened) -> bool
-    requires { opened.seen.book ≡ J.book }
+    requires { (opened.seen.book ≡ J.book) × (opened.blank.name ≡ J.shown) }
 {
     let made: Option<Scene<J>> = Scene::of(alloc, opened, 0, turn_at(0).said);
     let Some(mut scene) = made else {

@@ -6,12 +6,12 @@ ghost use Rattle.mt_routes.specs.Publications.{publication};
 use crate::said::{Said, topology_of};
 use mt_names::{KeyspaceName, RuleKey, TableName};
 use mt_routes::{
-    Front, Head, Naming, Next, Opened, Places, Router, RoutersFull, Shown, Standing, Told,
+    Front, Head, Naming, Next, Opened, Places, Publisher, Router, RoutersFull, Standing, Told,
     routes_of_a_topology_say_each_of_themselves, routes_say_what_their_topology_says,
 };
 use mt_topology::Topology;
 use std::alloc::{AllocError, Global};
-use std::sync::{Arc, Wait};
+use std::sync::Wait;
 
 /// How many publications there are to be at most.
 const LIMIT: u64 = 1 << 62;
@@ -82,24 +82,27 @@ fn first_at_last(alloc: Global, front: u64, topology: &Topology) -> Option<Next>
 pub struct Scene<J: Naming> {
     head: Head<J>,
     told: Told<J>,
-    shown: Arc<Shown<J>>,
+    publisher: Publisher<J>,
 }
 
 impl<J: Naming> Scene<J> {
     /// A list with one publication, of the routes of a topology, which is shown. What runs out of memory is made a second time, but for
     /// what is shown.
     pub fn open(alloc: Global, opened: Opened, front: u64, topology: &Topology) -> Option<Scene<J>>
-        requires { opened.seen.book ≡ J.book }
+        requires { (opened.seen.book ≡ J.book) × (opened.blank.name ≡ J.shown) }
     {
         let first = first_at_last(alloc, front, topology)?;
-        let (head, first) = opened.named::<J>(first)?;
-        let (shown, told) = Shown::open(alloc, first).ok()?;
-        Some(Scene { head, told, shown })
+        let (head, publisher, told) = opened.named::<J>(first)?.shown(alloc).ok()?;
+        Some(Scene {
+            head,
+            told,
+            publisher,
+        })
     }
 
     /// A list with one publication of these routes, which is shown.
     pub fn of(alloc: Global, opened: Opened, front: u64, said: &[Said<'_>]) -> Option<Scene<J>>
-        requires { opened.seen.book ≡ J.book }
+        requires { (opened.seen.book ≡ J.book) × (opened.blank.name ≡ J.shown) }
     {
         let topology = topology_of(alloc, said)?;
         Scene::open(alloc, opened, front, &topology)
@@ -113,7 +116,7 @@ impl<J: Naming> Scene<J> {
     /// A router that knows what is known here.
     pub fn router(&self) -> Result<Router<J>, RoutersFull> {
         match self.told.again() {
-            Ok(told) => Router::new(&self.shown, told),
+            Ok(told) => self.publisher.router(told),
             Err(_) => Err(RoutersFull),
         }
     }
@@ -127,7 +130,11 @@ impl<J: Naming> Scene<J> {
         front: u64,
         topology: &Topology,
     ) -> bool {
-        let Scene { head, told, shown } = self;
+        let Scene {
+            head,
+            told,
+            publisher,
+        } = self;
         if told.len() >= LIMIT || told.front() > Front(front) {
             return false;
         }
@@ -136,7 +143,7 @@ impl<J: Naming> Scene<J> {
         };
         match told.add(head, next) {
             Some(added) => {
-                *told = shown.show(rt, added).0;
+                *told = publisher.show(rt, added).0;
                 true
             }
             None => false,

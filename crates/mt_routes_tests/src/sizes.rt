@@ -190,7 +190,7 @@ fn plays_at<J: Naming, R: Wait>(rt: &R, alloc: Global, scene: &mut Scene<J>) -> 
 
 /// How many go so at a new list.
 fn plays<J: Naming, R: Wait>(rt: &R, alloc: Global, opened: Opened) -> Option<usize>
-    requires { opened.seen.book ≡ J.book }
+    requires { (opened.seen.book ≡ J.book) × (opened.blank.name ≡ J.shown) }
 {
     let made: Option<Scene<J>> = Scene::of(alloc, opened, 0, &[Said::Rule("x", "a.t")]);
     match made {

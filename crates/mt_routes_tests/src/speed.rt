@@ -91,7 +91,7 @@ fn are_routed<J: Naming + Send + Sync, R: Threads + Wait + Sync>(
     readers: u64,
     many: u64,
 ) -> bool
-    requires { opened.seen.book ≡ J.book }
+    requires { (opened.seen.book ≡ J.book) × (opened.blank.name ≡ J.shown) }
 {
     let Some(first) = many_routes(alloc, RULES) else {
         return false;

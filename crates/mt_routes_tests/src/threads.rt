@@ -177,7 +177,7 @@ fn all_go_on<J: Naming + Send + Sync, R: Threads + Wait + Sync>(
     alloc: Global,
     opened: Opened,
 ) -> bool
-    requires { opened.seen.book ≡ J.book }
+    requires { (opened.seen.book ≡ J.book) × (opened.blank.name ≡ J.shown) }
 {
     let made: Option<Scene<J>> = Scene::of(alloc, opened, 0, &said_at(0));
     match made {

@@ -159,7 +159,7 @@ fn plays_at<J: Naming, R: Wait>(
 
 /// How many of them are, at a new list.
 fn plays<J: Naming, R: Wait>(rt: &R, alloc: Global, opened: Opened, many: u64) -> Option<u64>
-    requires { opened.seen.book ≡ J.book }
+    requires { (opened.seen.book ≡ J.book) × (opened.blank.name ≡ J.shown) }
 {
     let made: Option<Scene<J>> = Scene::of(alloc, opened, 0, turn_at(0).said);
     match made {

@@ -1,7 +1,7 @@
 //! Events, as they are kept.
-ghost use Rattle.std.specs.Prelude.{◌≡◌, ◌↔◌, Some, true, IfOk, IfSome, IsOk, IsSome};
+ghost use Rattle.std.specs.Prelude.{◌≡◌, ◌↔◌, Some, false, true, IfOk, IfSome, IsOk, IsSome};
 ghost use Rattle.mt_event.specs.declared.compact.events.Asked.TheVariants.{OnWorkflow};
-ghost use Rattle.mt_event.specs.CompactEvents.{event_from, is_in_place, on_workflow};
+ghost use Rattle.mt_event.specs.CompactEvents.{IsApart, event_from, is_in_place, on_workflow};
 
 use crate::compact::names::{CompactKeyspace, CompactTable};
 use crate::compact::ops::CompactOp;
@@ -10,9 +10,10 @@ use mt_names::{Position, TabletType, TypeSet, WorkflowName};
 use mt_workflow::Slot;
 use std::alloc::{AllocError, Global};
 use std::marker::Model;
+use std::sync::Arc;
 
 /// What is asked of a workflow that is there.
-#[derive(Drop)]
+#[derive(Clone, Copy)]
 enum Asks {
     Advance {
         stream: Slot,
@@ -44,11 +45,12 @@ enum Asked {
         table: CompactTable,
     },
     OnWorkflow(WorkflowName, Asks),
-    Other(Box<Event>),
+    Other(Arc<Event>),
 }
 
 /// An event, as it is kept: contracts see it as the event. Names and values of at most 22 bytes stand in place, and so does the name of a
-/// workflow that is there, whatever its length. Longer ones, and what is asked for seldom, stand in memory of their own.
+/// workflow that is there, whatever its length. Longer ones, and what is asked for seldom, stand in memory of their own, which all who keep the
+/// event share.
 #[derive(Drop)]
 pub struct CompactEvent {
     asked: Asked,
@@ -56,11 +58,13 @@ pub struct CompactEvent {
 
 impl Model for CompactEvent {
     ghost use Rattle.mt_event.specs.declared.event.Event.{Event};
-    ghost use Rattle.mt_event.specs.CompactEvents.{event_from};
+    ghost use Rattle.mt_event.specs.CompactEvents.{IsApart, event_from};
 
     ghost Value = { Event };
 
     ghost view = { λ kept. event_from kept.asked };
+
+    ghost invariant = { λ kept. IsApart kept.asked };
 }
 
 /// What is asked of a workflow, in place.
@@ -73,6 +77,7 @@ fn on(workflow: &WorkflowName, asks: Asks) -> Option<Asked>
 /// What an event asks of a workflow that is there, if it does. It takes no memory.
 fn in_place(event: &Event) -> Option<Asked>
     ensures same { IfSome result (λ asked. event_from asked ≡ event.now) }
+    ensures apart { IfSome result IsApart }
     ensures found { is_in_place event.now ≡ true → IsSome result }
 {
     match event {
@@ -104,7 +109,9 @@ fn in_place(event: &Event) -> Option<Asked>
 
 /// What any event asks. It is refused only when out of memory.
 fn kept(alloc: Global, event: &Event) -> Result<Asked, AllocError>
-    ensures { IfOk result (λ asked. event_from asked ≡ event.now) }
+    requires { is_in_place event.now ≡ false }
+    ensures same { IfOk result (λ asked. event_from asked ≡ event.now) }
+    ensures apart { IfOk result IsApart }
 {
     match event {
         Event::Write {
@@ -134,9 +141,11 @@ fn kept(alloc: Global, event: &Event) -> Result<Asked, AllocError>
 /// An event in memory of its own. It is refused only when out of memory.
 #[inline(never)]
 fn kept_apart(alloc: Global, event: &Event) -> Result<Asked, AllocError>
-    ensures { IfOk result (λ asked. event_from asked ≡ event.now) }
+    requires { is_in_place event.now ≡ false }
+    ensures same { IfOk result (λ asked. event_from asked ≡ event.now) }
+    ensures apart { IfOk result IsApart }
 {
-    Ok(Asked::Other(Box::new(alloc, event.copied())?))
+    Ok(Asked::Other(Arc::new(alloc, event.copied())?))
 }
 
 impl Asks {
@@ -184,6 +193,39 @@ impl CompactEvent {
         let asked = match in_place(event) {
             Some(asked) => asked,
             None => kept(alloc, event)?,
+        };
+        Ok(CompactEvent { asked })
+    }
+
+    /// The event, for one more who keeps it. It takes no memory, and is refused only where those who share can't be counted any further; what is asked
+    /// of a workflow that is there is never refused.
+    pub fn again(&self) -> Result<Self, AllocError>
+        ensures same { IfOk result (λ kept. kept ≡ self.now) }
+        ensures in_place { is_in_place self.now ≡ true → IsOk result }
+    {
+        let asked = match &self.asked {
+            Asked::Write {
+                keyspace,
+                table,
+                op,
+            } => Asked::Write {
+                keyspace: keyspace.again()?,
+                table: table.again()?,
+                op: op.again()?,
+            },
+            Asked::Read {
+                type_of,
+                key,
+                keyspace,
+                table,
+            } => Asked::Read {
+                type_of: *type_of,
+                key: *key,
+                keyspace: keyspace.again()?,
+                table: table.again()?,
+            },
+            Asked::OnWorkflow(workflow, asks) => Asked::OnWorkflow(workflow.copied(), *asks),
+            Asked::Other(event) => Asked::Other(Arc::try_clone(event)?),
         };
         Ok(CompactEvent { asked })
     }

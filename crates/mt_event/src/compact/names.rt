@@ -7,7 +7,7 @@ use mt_names::{KeyspaceName, TableName, Value};
 use std::alloc::{AllocError, Global};
 use std::marker::Model;
 
-/// The name of a keyspace. One of at most 22 bytes stands in place, a longer one in memory of its own.
+/// The name of a keyspace. One of at most 22 bytes stands in place, a longer one in memory that all who keep it share.
 #[derive(Drop)]
 pub struct CompactKeyspace {
     bytes: SharedValue,
@@ -24,7 +24,7 @@ impl Model for CompactKeyspace {
     ghost invariant = { λ kept. IsKeyspaceName kept.bytes.items };
 }
 
-/// The name of a table. One of at most 22 bytes stands in place, a longer one in memory of its own.
+/// The name of a table. One of at most 22 bytes stands in place, a longer one in memory that all who keep it share.
 #[derive(Drop)]
 pub struct CompactTable {
     bytes: SharedValue,
@@ -78,6 +78,15 @@ impl CompactKeyspace {
         Ok(CompactKeyspace { bytes })
     }
 
+    /// The name, for one more who keeps it. It takes no memory.
+    pub fn again(&self) -> Result<Self, AllocError>
+        ensures { IfOk result (λ kept. kept ≡ self.now) }
+    {
+        Ok(CompactKeyspace {
+            bytes: self.bytes.try_clone()?,
+        })
+    }
+
     /// Whether another one is the same name. It takes no memory.
     pub fn is_same(&self, other: &Self) -> bool
         ensures { (result ≡ true) ↔ (self.now ≡ other.now) }
@@ -103,6 +112,15 @@ impl CompactTable {
     {
         let bytes = kept_bytes(alloc, name.as_str())?;
         Ok(CompactTable { bytes })
+    }
+
+    /// The name, for one more who keeps it. It takes no memory.
+    pub fn again(&self) -> Result<Self, AllocError>
+        ensures { IfOk result (λ kept. kept ≡ self.now) }
+    {
+        Ok(CompactTable {
+            bytes: self.bytes.try_clone()?,
+        })
     }
 
     /// Whether another one is the same name. It takes no memory.

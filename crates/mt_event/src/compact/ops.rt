@@ -16,7 +16,7 @@ enum Done {
     Delete(u64),
 }
 
-/// What is done to a row. A value of at most 22 bytes stands in place, a longer one in memory of its own.
+/// What is done to a row. A value of at most 22 bytes stands in place, a longer one in memory that all who keep it share.
 #[derive(Drop)]
 pub struct CompactOp {
     done: Done,
@@ -48,6 +48,19 @@ impl CompactOp {
             Op::Update(key, value) => Done::Update(*key, kept_value(alloc, value)?),
             Op::Append(key, value) => Done::Append(*key, kept_value(alloc, value)?),
             Op::Delete(key) => Done::Delete(*key),
+        };
+        Ok(CompactOp { done })
+    }
+
+    /// What is done, for one more who keeps it. It takes no memory.
+    pub fn again(&self) -> Result<Self, AllocError>
+        ensures { IfOk result (λ kept. kept ≡ self.now) }
+    {
+        let done = match &self.done {
+            Done::Insert(key, value) => Done::Insert(*key, value.try_clone()?),
+            Done::Update(key, value) => Done::Update(*key, value.try_clone()?),
+            Done::Append(key, value) => Done::Append(*key, value.try_clone()?),
+            Done::Delete(key) => Done::Delete(*key),
         };
         Ok(CompactOp { done })
     }

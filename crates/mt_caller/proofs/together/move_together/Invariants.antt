@@ -8,4 +8,4 @@ abbrev pub ghosts-move_named-D-DeskName : goal.ghosts-move_named-D-DeskName
 ghosts-move_named-D-DeskName g a = record { opening = a.site.core; scopes = g.W.Asks.scopes a.site.watchers }
 
 abbrev pub ghosts-move_named-D-Naming : goal.ghosts-move_named-D-Naming
-ghosts-move_named-D-Naming g a = record { book = a.opened.seen.book }
+ghosts-move_named-D-Naming g a = record { book = a.opened.seen.book; shown = a.opened.blank.name }

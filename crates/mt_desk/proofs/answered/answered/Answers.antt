@@ -22,13 +22,13 @@ returns-in-Write-clause-applies g c =
     (subst (λ e. AppliesAndPurges (g.W.Asks.scopes c.args.watchers.now) (g.W.Asks.may_answer c.args.watchers.now) c.args.core.now e (done_by c.write_row-told.result) c.write_row-told.new.self) same
     (record c.args.core.now { base = made }, (wrote, refl), (purges, c.write_row-told.ensures.ways)))
 
-pub returns-in-Read-clause-applies : goal.returns-in-Read-clause-applies
-returns-in-Read-clause-applies g c =
+pub returns-in-Ok-again-clause-applies : goal.returns-in-Ok-again-clause-applies
+returns-in-Ok-again-clause-applies g c =
     let target = c.place_at-in-Read.result.target in
     let asked = c.in-Read in
     let same : plain.read target.keyspace target.table asked.key asked.type_of ≡ plain.read asked.keyspace asked.table asked.key asked.type_of =
     ap (λ k. plain.read k target.table asked.key asked.type_of) c.place_at-in-Read.ensures.keyspace ∙ ap (λ t. plain.read asked.keyspace t asked.key asked.type_of) c.place_at-in-Read.ensures.table in
-    let told : answer_from c.keep_read.result ≡ read_from c.read_row-told.result = ap answer_from c.keep_read.ensures ∙ read_told c.read_row-told.result in
+    let told : answer_from c.in-Ok.answer ≡ read_from c.read_row-told.result = ap answer_from c.in-Ok.ensures ∙ read_told c.read_row-told.result in
     rw (c.in-Read.is, told)
     (subst (λ e. AppliesAndPurges (g.W.Asks.scopes c.args.watchers.now) (g.W.Asks.may_answer c.args.watchers.now) c.args.core.now e (read_from c.read_row-told.result) c.args.core.now) same
     (c.args.core.now, (c.read_row-told.ensures.does, refl), refl))
@@ -44,12 +44,12 @@ returns-in-Write-clause-steps g c =
     let told : answer_from c.of_write.result ≡ done_by c.write_row-told.result = ap answer_from c.of_write.ensures ∙ write_told c.write_row-told.result in
     rw (c.in-Write.is, told) (subst (λ e. CoreSteps scopes c.args.core.now e (done_by c.write_row-told.result) c.write_row-told.new.self) same (c.write_row-told.ensures.steps scopes))
 
-pub returns-in-Read-clause-steps : goal.returns-in-Read-clause-steps
-returns-in-Read-clause-steps g c =
+pub returns-in-Ok-again-clause-steps : goal.returns-in-Ok-again-clause-steps
+returns-in-Ok-again-clause-steps g c =
     let scopes = g.W.Asks.scopes c.args.watchers.now in
     let target = c.place_at-in-Read.result.target in
     let asked = c.in-Read in
     let same : plain.read target.keyspace target.table asked.key asked.type_of ≡ plain.read asked.keyspace asked.table asked.key asked.type_of =
     ap (λ k. plain.read k target.table asked.key asked.type_of) c.place_at-in-Read.ensures.keyspace ∙ ap (λ t. plain.read asked.keyspace t asked.key asked.type_of) c.place_at-in-Read.ensures.table in
-    let told : answer_from c.keep_read.result ≡ read_from c.read_row-told.result = ap answer_from c.keep_read.ensures ∙ read_told c.read_row-told.result in
+    let told : answer_from c.in-Ok.answer ≡ read_from c.read_row-told.result = ap answer_from c.in-Ok.ensures ∙ read_told c.read_row-told.result in
     rw (c.in-Read.is, told) (subst (λ e. CoreSteps scopes c.args.core.now e (read_from c.read_row-told.result) c.args.core.now) same (c.read_row-told.ensures.steps scopes))

@@ -1,20 +1,21 @@
--- There is room for the answer by value in both rooms: an undo and a Cancel are answered in place.
+-- An answer that isn't kept takes memory, and then nothing has changed; that of an undo or a Cancel takes none.
+use Rattle.std.proofs.Common.{◌≡◌, ◌∙◌, false, true, ap}
+use Rattle.mt_event.specs.CompactAnswers.{may_stand_apart}
 use Rattle.mt_event.specs.Events.{event_of}
-use Rattle.mt_event.specs.CompactAnswers.{needs_room}
-use Rattle.mt_event.specs.Rooms.{IsReady}
-use Rattle.mt_desk.specs.Room.{gives_up, is_undo_or_cancel}
-use Rattle.mt_desk.proofs.AnswerLemmas.{answer_in_place, ready_from, up_is_short}
+use Rattle.mt_desk.proofs.AnswerLemmas.{answer_in_place, kept_where_short, long_where_refused, nothing_changed}
 use Rattle.mt_desk.proofs.answered.answered_by_value.Goals as goal
 
-pub keep-requires : goal.keep-requires
-keep-requires g c =
-    let now = c.args.core.now in
-    let event = event_of c.args.event.now in
-    let short = answer_in_place (g.W.Asks.scopes c.args.watchers.now) now c.apply-answer.new.self c.requires.stood event c.apply-answer.result c.apply-answer.ensures.steps in
-    ready_from (gives_up now event) (needs_room c.apply-answer.result) (IsReady c.args.ours.now) c.requires.ours (λ up. short (up_is_short now event up))
+pub returns-in_default-again-clause-none : goal.returns-in_default-again-clause-none
+returns-in_default-again-clause-none g c =
+    let told = c.apply-told.result in
+    let long : may_stand_apart told ≡ true
+    = long_where_refused (may_stand_apart told) c.again.result (λ short. c.again.ensures.in_place (ap may_stand_apart c.in-Ok.ensures.same ∙ short)) c.in_default-again.not-Ok in
+    nothing_changed (g.W.Asks.scopes c.args.watchers.now) (g.W.Asks.may_answer c.args.watchers.now) c.args.core.now c.apply-told.new.self c.requires.stood
+    (event_of c.args.event.now) told c.apply-told.ensures.steps c.apply-told.ensures.applies c.apply-told.ensures.unchanged long
 
-pub keep-requires-2 : goal.keep-requires-2
-keep-requires-2 g c =
-    let event = event_of c.args.event.now in
-    let short = answer_in_place (g.W.Asks.scopes c.args.watchers.now) c.args.core.now c.apply-answer.new.self c.requires.stood event c.apply-answer.result c.apply-answer.ensures.steps in
-    ready_from (is_undo_or_cancel event) (needs_room c.apply-answer.result) (IsReady c.args.theirs.now) c.requires.theirs short
+pub returns-in_default-again-clause-in_place : goal.returns-in_default-again-clause-in_place
+returns-in_default-again-clause-in_place g c = λ is.
+    let told = c.apply-told.result in
+    let short : may_stand_apart told ≡ false
+    = answer_in_place (g.W.Asks.scopes c.args.watchers.now) c.args.core.now c.apply-told.new.self c.requires.stood (event_of c.args.event.now) told c.apply-told.ensures.steps is in
+    absurd (kept_where_short (may_stand_apart told) c.again.result (λ none. c.again.ensures.in_place (ap may_stand_apart c.in-Ok.ensures.same ∙ none)) c.in_default-again.not-Ok short)

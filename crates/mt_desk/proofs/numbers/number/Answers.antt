@@ -1,5 +1,5 @@
 -- One pass more is noted.
-use Rattle.std.proofs.Common.{◌≡◌, ◌<◌, ◌∙◌, ◌+◌, ap, length, rules, set, subst, sym}
+use Rattle.std.proofs.Common.{◌≡◌, ◌<◌, ◌∙◌, ◌+◌, ap, length, rules, set, subst}
 use Rattle.mt_desk.proofs.NumberLemmas.{next_noted}
 use Rattle.mt_desk.proofs.numbers.number.Goals as goal
 

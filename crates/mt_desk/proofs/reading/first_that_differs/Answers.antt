@@ -1,5 +1,5 @@
 -- A line is of the next call of its client's pass, or its client's calls differ.
-use Rattle.std.proofs.Common.{◌≡◌, ◌≤◌, ◌<◌, ◌+◌, ◌∙◌, All, Some, arith, false, true, get_or, length, map, refl, rules, set, subst, sym, take}
+use Rattle.std.proofs.Common.{◌≡◌, ◌≤◌, ◌<◌, ◌+◌, ◌∙◌, All, Some, arith, false, get_or, length, map, refl, rules, set, subst, sym}
 use Rattle.std.specs.Prelude.{slice_get}
 use Rattle.std.proofs.lemmas.Bool.{true≢false}
 use Rattle.std.proofs.lemmas.List.{length-map, take_all}

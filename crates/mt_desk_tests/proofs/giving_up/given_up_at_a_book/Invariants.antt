@@ -8,4 +8,4 @@ abbrev pub ghosts-give_up_anew-D-DeskName : goal.ghosts-give_up_anew-D-DeskName
 ghosts-give_up_anew-D-DeskName g a = record { opening = a.core; scopes = g.W.Asks.scopes a.watchers.now }
 
 abbrev pub ghosts-give_up_anew-D-Naming : goal.ghosts-give_up_anew-D-Naming
-ghosts-give_up_anew-D-Naming g a = record { book = a.opened.seen.book }
+ghosts-give_up_anew-D-Naming g a = record { book = a.opened.seen.book; shown = a.opened.blank.name }

@@ -8,4 +8,4 @@ abbrev pub ghosts-race_named-D-DeskName : goal.ghosts-race_named-D-DeskName
 ghosts-race_named-D-DeskName g a = record { opening = a.site.core; scopes = g.W.Asks.scopes a.site.watchers }
 
 abbrev pub ghosts-race_named-D-Naming : goal.ghosts-race_named-D-Naming
-ghosts-race_named-D-Naming g a = record { book = a.opened.seen.book }
+ghosts-race_named-D-Naming g a = record { book = a.opened.seen.book; shown = a.opened.blank.name }

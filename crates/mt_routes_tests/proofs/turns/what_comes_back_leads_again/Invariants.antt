@@ -2,4 +2,4 @@ use Rattle.mt_routes_tests.proofs.turns.what_comes_back_leads_again.Given as goa
 
 -- the list that was just opened
 abbrev pub ghosts-plays : goal.ghosts-plays
-ghosts-plays g a = record { book = a.opened.seen.book }
+ghosts-plays g a = record { book = a.opened.seen.book; shown = a.opened.blank.name }

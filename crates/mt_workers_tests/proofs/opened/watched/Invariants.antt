@@ -8,4 +8,4 @@ abbrev pub ghosts-at_a_desk-D-DeskName : goal.ghosts-at_a_desk-D-DeskName
 ghosts-at_a_desk-D-DeskName g a = record { opening = a.site.core; scopes = g.W.Asks.scopes a.site.watchers }
 
 abbrev pub ghosts-at_a_desk-D-Naming : goal.ghosts-at_a_desk-D-Naming
-ghosts-at_a_desk-D-Naming g a = record { book = a.opened.seen.book }
+ghosts-at_a_desk-D-Naming g a = record { book = a.opened.seen.book; shown = a.opened.blank.name }

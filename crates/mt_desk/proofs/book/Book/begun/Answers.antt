@@ -15,11 +15,12 @@ invariant_of-result g c =
     let opening = g.D.DeskName.opening in
     let core = c.args.core in
     let history = c.args.history in
-    let first : c.args.shown.1 ≡ publication 0 (routes_of opening.base.topology) ∷ [] = c.requires.first ∙ ap (λ (s : CoreState). publication 0 (routes_of s.base.topology) ∷ []) c.requires.opening in
+    let first : c.args.list.2 ≡ publication 0 (routes_of opening.base.topology) ∷ [] = c.requires.first ∙ ap (λ (s : CoreState). publication 0 (routes_of s.base.topology) ∷ []) c.requires.opening in
     record {
       legal = subst (λ lines. ∥ Leads scopes opening lines core ∥₁) (sym c.requires.none) (kept_nowhere scopes opening core c.requires.opening c.requires.stood);
       purged = purged_opened opening core c.requires.opening;
       room = c.requires.room;
-      fronts = subst (λ lines. ∥ AreFronts scopes opening lines c.args.shown.1 ∥₁) (sym c.requires.none)
+      fronts = subst (λ lines. ∥ AreFronts scopes opening lines c.args.list.2 ∥₁) (sym c.requires.none)
           (subst (λ list. ∥ AreFronts scopes opening [] list ∥₁) (sym first) (first_front c.routes_of_what_is_served_are_a_view.ensures.routes scopes opening));
+      shown = c.requires.shown;
     }

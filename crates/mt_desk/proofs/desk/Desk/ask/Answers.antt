@@ -1,5 +1,5 @@
 -- What was taken under the lock is what the pass lists.
-use Rattle.std.proofs.Common.{◌≡◌, ◌∙◌, Err, Ok, ap, rules, subst, sym}
+use Rattle.std.proofs.Common.{◌∙◌, Err, Ok, ap, subst, sym}
 use Rattle.mt_desk.specs.Taken.{IsTaken}
 use Rattle.mt_desk.proofs.desk.Desk.ask.Goals as goal
 

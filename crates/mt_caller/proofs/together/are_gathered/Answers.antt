@@ -1,8 +1,8 @@
 -- What is gathered is what was handed in.
 use Rattle.std.proofs.Common.{◌∙◌, map, subst, sym}
 use Rattle.mt_desk.specs.Passes.{HaveOneHistory}
-use Rattle.mt_desk_tests.proofs.CallerLemmas.{on_ok}
-use Rattle.mt_desk_tests.proofs.caller.gather_two.Goals as goal
+use Rattle.mt_caller.proofs.GatheredLemmas.{on_ok}
+use Rattle.mt_caller.proofs.together.are_gathered.Goals as goal
 
 pub returns-in-Ok : goal.returns-in-Ok
 returns-in-Ok g c = λ is.
