@@ -1,2 +1,3 @@
+mod CallerLemmas
 mod GivingUpLemmas
 mod PrefixLemmas
