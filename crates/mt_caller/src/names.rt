@@ -1,4 +1,9 @@
 //! What the two moves are about: tables of `commerce`, which has one shard, that go to `customer`, which has two.
+ghost use Rattle.std.specs.Prelude.{◌≡◌, [], ◌∷◌, None, codes, map};
+ghost use Rattle.mt_event.specs.Events.{event_of};
+ghost use Rattle.mt_model.specs.declared.rows.Op.TheVariants.{Insert};
+ghost use Rattle.mt_plain.specs.Events as plain;
+ghost use Rattle.mt_caller.specs.Moves.{second};
 
 use arrayvec::ArrayVec;
 use mt_site::{Event, KeyspaceName, Op, RuleKey, ShardList, Slot, TableName, Value, WorkflowName};
@@ -7,12 +12,16 @@ use mt_site::{Event, KeyspaceName, Op, RuleKey, ShardList, Slot, TableName, Valu
 pub(crate) const SHARDS: u8 = 2;
 
 /// The keyspace that the tables move from.
-pub(crate) fn source() -> KeyspaceName {
+pub(crate) fn source() -> KeyspaceName
+    ensures { result ≡ codes "commerce" }
+{
     KeyspaceName::parse("commerce").unwrap()
 }
 
 /// The keyspace that they move to.
-pub(crate) fn target() -> KeyspaceName {
+pub(crate) fn target() -> KeyspaceName
+    ensures { result ≡ codes "customer" }
+{
     KeyspaceName::parse("customer").unwrap()
 }
 
@@ -22,7 +31,9 @@ pub(crate) fn corder() -> TableName {
 }
 
 /// The table that workers move.
-pub(crate) fn product() -> TableName {
+pub(crate) fn product() -> TableName
+    ensures { result ≡ codes "product" }
+{
     TableName::parse("product").unwrap()
 }
 
@@ -32,12 +43,16 @@ pub(crate) fn first() -> WorkflowName {
 }
 
 /// The workflow of the second move.
-pub(crate) fn second() -> WorkflowName {
+pub(crate) fn second() -> WorkflowName
+    ensures { result ≡ second }
+{
     WorkflowName::parse("second").unwrap()
 }
 
 /// A table by its name alone, wherever it is.
-pub(crate) fn by_name(table: TableName) -> RuleKey {
+pub(crate) fn by_name(table: TableName) -> RuleKey
+    ensures { result ≡ record { keyspace = None; table = table; tablet_type = None } }
+{
     RuleKey {
         keyspace: None,
         table,
@@ -46,7 +61,9 @@ pub(crate) fn by_name(table: TableName) -> RuleKey {
 }
 
 /// An insert of an empty row.
-pub(crate) fn insert(key: u64) -> Op {
+pub(crate) fn insert(key: u64) -> Op
+    ensures { result ≡ Insert key (record { items = [] }) }
+{
     Op::Insert(key, Value::new())
 }
 
@@ -73,7 +90,11 @@ pub(crate) fn keyspaces_and_tables() -> [Event; 4] {
 }
 
 /// The workflow that moves a table, and the copy of it to both shards.
-pub(crate) fn create_and_copy(workflow: &WorkflowName, table: TableName) -> [Event; 3] {
+pub(crate) fn create_and_copy(workflow: &WorkflowName, table: TableName) -> [Event; 3]
+    ensures { map event_of result
+        ≡ plain.create workflow.now (codes "commerce") (codes "customer") (table ∷ []) ∷ plain.advance workflow.now plain.forward 0 2 100
+        ∷ plain.advance workflow.now plain.forward 1 2 100 ∷ [] }
+{
     let mut tables = ArrayVec::new_in(());
     tables.push(table);
     [
@@ -89,7 +110,9 @@ pub(crate) fn create_and_copy(workflow: &WorkflowName, table: TableName) -> [Eve
 }
 
 /// The copy to one shard, of at most 100 rows. It begins behind what the source's log has then: the two rows of the first table.
-fn copy(workflow: &WorkflowName, shard: u8) -> Event {
+fn copy(workflow: &WorkflowName, shard: u8) -> Event
+    ensures { event_of result ≡ plain.advance workflow.now plain.forward shard 2 100 }
+{
     Event::Advance {
         workflow: workflow.copied(),
         stream: Slot::Forward,

@@ -1,11 +1,15 @@
 //! A table that moves while clients ask for it: a desk, its workers, and a router.
-ghost use Rattle.std.specs.Prelude.{◌≡◌, true, map};
+ghost use Rattle.std.specs.Prelude.{◌≡◌, ◌++◌, [], ◌∷◌, true, Ok, IfSome, map};
+ghost use Rattle.std.specs.List.{range_with_len};
+ghost use Rattle.mt_desk.specs.Histories.{call};
 ghost use Rattle.mt_desk.specs.Passes.{HaveOneHistory};
+ghost use Rattle.mt_event.specs.declared.reply.Reply.{Reply};
 ghost use Rattle.mt_site.specs.Stood.{IsCoreWith};
+ghost use Rattle.mt_caller.specs.Moves.{AreTaken, IsMoved, IsOfClient, IsOfController, IsOfFeeder, create_events, line};
 
 use crate::names::{SHARDS, by_name, create_and_copy, insert, product, second, target};
 use mt_desk::{Desk, DeskFault, DeskName, Opened, Pass};
-use mt_site::{Asks, Driven, Site, Slot, TabletType, TypeSet};
+use mt_site::{Asks, Driven, Event, Site, Slot, TabletType, TypeSet};
 use mt_workers::{
     Line, Message, NoGate, Sender, controller, query_worker, stream_worker, unbounded,
 };
@@ -15,18 +19,79 @@ use std::sync::Wait;
 use std::sync::ledger::Blank;
 use std::thread::{Threads, join};
 
-/// How many rows the client inserts.
+/// How many rows the client inserts, and how far their keys are apart: half of them are in either shard of the target.
 const ROWS: u64 = 32;
 
-/// Makes the workflow, and copies the table. Answers the pass of who asked for it, if all was taken.
-fn create<R: Wait, D: DeskName, W: Asks + Drop>(rt: &R, desk: &Desk<D, W>) -> Option<Pass<D>> {
-    let mut pass = desk.pass(rt, 1).ok()?;
-    for event in create_and_copy(&second(), product()) {
-        if !matches!(desk.ask(rt, &mut pass, event), Ok(Ok(_))) {
-            return None;
-        }
+const BETWEEN: u64 = 1 << 59;
+
+/// The pass of who made the workflow and had the table copied.
+#[derive(Drop)]
+struct Created<D: DeskName> {
+    pass: Pass<D>,
+    ghost client: { pass.client ≡ 1 },
+    ghost taken: { AreTaken create_events pass.calls.items },
+}
+
+/// The pass of the client that inserts, and was answered each row.
+#[derive(Drop)]
+struct Wrote<D: DeskName> {
+    pass: Pass<D>,
+    ghost client: { pass.client ≡ 2 },
+    ghost asked: { IsOfClient pass.calls.items },
+}
+
+/// The pass of the worker that advances the streams of both shards.
+#[derive(Drop)]
+struct Fed<D: DeskName> {
+    pass: Pass<D>,
+    ghost client: { pass.client ≡ 3 },
+    ghost advanced: { IsOfFeeder pass.calls.items },
+}
+
+/// The pass of the controller that has switched the traffic.
+#[derive(Drop)]
+struct Switched<D: DeskName> {
+    pass: Pass<D>,
+    ghost client: { pass.client ≡ 4 },
+    ghost controlled: { IsOfController pass.calls.items },
+}
+
+/// Asks for an event. Answers the pass, if it was taken.
+fn ask_taken<R: Wait, D: DeskName, W: Asks + Drop>(
+    rt: &R,
+    desk: &Desk<D, W>,
+    mut pass: Pass<D>,
+    event: Event,
+) -> Option<Pass<D>>
+    ensures client { IfSome result (λ after. after.client ≡ pass.client) }
+    ensures taken { IfSome result (λ after. (reply : Reply) × (after.calls.items ≡ pass.calls.items ++ call event (Ok reply) ∷ [])) }
+{
+    match desk.ask(rt, &mut pass, event) {
+        Ok(Ok(_)) => Some(pass),
+        _ => None,
     }
-    Some(pass)
+}
+
+/// Makes the workflow, and copies the table. Answers the pass of who asked for it, if all was taken.
+fn create<R: Wait, D: DeskName, W: Asks + Drop>(rt: &R, desk: &Desk<D, W>) -> Option<Created<D>> {
+    let [made, low, high] = create_and_copy(&second(), product());
+    let pass = desk.pass(rt, 1).ok()?;
+    let pass = ask_taken(rt, desk, pass, made)?;
+    let pass = ask_taken(rt, desk, pass, low)?;
+    let pass = ask_taken(rt, desk, pass, high)?;
+    Some(Created { pass })
+}
+
+/// The inserts of all rows, by the table's name.
+fn inserts(alloc: Global) -> Option<Vec<Line>>
+    ensures { IfSome result (λ lines. lines.items ≡ map line (range_with_len 0 32)) }
+{
+    let mut lines = Vec::new(alloc);
+    for row in 0..ROWS {
+        let line = Line::Put(by_name(product()), insert(row * BETWEEN));
+        lines.push(line).ok()?;
+    }
+    Some(lines)
 }
 
 /// Inserts rows by the table's name, half of them in either shard of the target. Answers the client's pass, if each was answered.
@@ -35,21 +100,17 @@ fn write<R: Wait, D: DeskName, W: Asks + Drop>(
     alloc: Global,
     desk: &Desk<D, W>,
     sender: &Sender<Message>,
-) -> Option<Pass<D>> {
-    let mut lines = Vec::new(alloc);
-    for row in 0..ROWS {
-        let line = Line::Put(by_name(product()), insert(row << 59));
-        lines.push(line).ok()?;
-    }
+) -> Option<Wrote<D>> {
+    let lines = inserts(alloc)?;
     let (pass, router) = (desk.pass(rt, 2).ok()?, desk.router(rt).ok()?);
     match query_worker(rt, &NoGate, desk, router, pass, 0, &lines, sender) {
-        (pass, ROWS) => Some(pass),
+        (pass, ROWS) => Some(Wrote { pass }),
         _ => None,
     }
 }
 
 /// Advances the streams of both shards. Answers the worker's pass.
-fn feed<R: Wait, D: DeskName, W: Asks + Drop>(rt: &R, desk: &Desk<D, W>) -> Option<Pass<D>> {
+fn feed<R: Wait, D: DeskName, W: Asks + Drop>(rt: &R, desk: &Desk<D, W>) -> Option<Fed<D>> {
     let pass = desk.pass(rt, 3).ok()?;
     let (pass, _taken) = stream_worker(
         rt,
@@ -63,11 +124,11 @@ fn feed<R: Wait, D: DeskName, W: Asks + Drop>(rt: &R, desk: &Desk<D, W>) -> Opti
         100,
         200,
     );
-    Some(pass)
+    Some(Fed { pass })
 }
 
 /// Switches the traffic of all types. Answers the controller's pass, if that is done.
-fn switch<R: Wait, D: DeskName, W: Asks + Drop>(rt: &R, desk: &Desk<D, W>) -> Option<Pass<D>> {
+fn switch<R: Wait, D: DeskName, W: Asks + Drop>(rt: &R, desk: &Desk<D, W>) -> Option<Switched<D>> {
     let pass = desk.pass(rt, 4).ok()?;
     match controller(
         rt,
@@ -80,7 +141,7 @@ fn switch<R: Wait, D: DeskName, W: Asks + Drop>(rt: &R, desk: &Desk<D, W>) -> Op
         false,
         256,
     ) {
-        (pass, Ok(Driven::Done)) => Some(pass),
+        (pass, Ok(Driven::Done)) => Some(Switched { pass }),
         _ => None,
     }
 }
@@ -112,13 +173,31 @@ fn leads_on<R: Wait, D: DeskName, W: Asks + Drop>(rt: &R, desk: &Desk<D, W>) -> 
     }
 }
 
+/// Hands in the passes of a move. Answers whether one legal history has just their calls.
+fn gather<R: Wait, D: DeskName, W: Asks + Drop>(
+    rt: &R,
+    alloc: Global,
+    desk: &Desk<D, W>,
+    created: Created<D>,
+    wrote: Wrote<D>,
+    fed: Fed<D>,
+    switched: Switched<D>,
+) -> bool
+    ensures { result ≡ true → IsMoved D.scopes D.opening }
+{
+    let passes = [created.pass, wrote.pass, fed.pass, switched.pass];
+    are_gathered(rt, alloc, desk, passes)
+}
+
 /// Moves the second table, while a client writes to it. Answers whether its name leads to the target then, if one legal history has just the calls of
 /// all four.
 fn move_at<R: Threads + Wait + Sync, D: DeskName + Send + Sync, W: Asks + Drop + Send>(
     rt: &R,
     alloc: Global,
     desk: &Desk<D, W>,
-) -> Option<bool> {
+) -> Option<bool>
+    ensures { IfSome result (λ leads. IsMoved D.scopes D.opening) }
+{
     let created = create(rt, desk)?;
     let (sender, _receiver) = unbounded(alloc).ok()?;
     let sender = &sender;
@@ -127,8 +206,7 @@ fn move_at<R: Threads + Wait + Sync, D: DeskName + Send + Sync, W: Asks + Drop +
         move || write(rt, alloc, desk, sender),
         move || join(rt, move || feed(rt, desk), move || switch(rt, desk)),
     );
-    let passes = [created, wrote?, fed?, switched?];
-    if !are_gathered(rt, alloc, desk, passes) {
+    if !gather(rt, alloc, desk, created, wrote?, fed?, switched?) {
         return None;
     }
     Some(leads_on(rt, desk))
@@ -147,6 +225,7 @@ fn move_named<R: Threads + Wait + Sync, D: DeskName + Send + Sync, W: Asks + Dro
     requires opening { site.core ≡ D.opening }
     requires scopes { W.scopes site.watchers ≡ D.scopes }
     requires stood { IsCoreWith D.scopes site.core }
+    ensures { result ≡ true → IsMoved D.scopes D.opening }
 {
     let made: Result<Desk<D, W>, DeskFault> = Desk::open(alloc, rt, blank, opened, site);
     let Ok(desk) = made else {
@@ -160,13 +239,15 @@ fn move_named<R: Threads + Wait + Sync, D: DeskName + Send + Sync, W: Asks + Dro
     }
 }
 
-/// Moves the second table at a desk, while a client writes to it. Answers whether it is moved, and one legal history has just the calls of all.
+/// Moves the second table at a desk, while a client writes to it. Answers whether it is moved: then one legal history has just the calls of all who
+/// took part, of the controller among them, whose switch is done.
 pub(crate) fn move_together<R: Threads + Wait + Sync, W: Asks + Drop + Send>(
     rt: &R,
     alloc: Global,
     site: Site<W>,
 ) -> bool
     requires { IsCoreWith (W.scopes site.watchers) site.core }
+    ensures { result ≡ true → IsMoved (W.scopes site.watchers) site.core }
 {
     let (blank, opened) = (Blank::new(1), Opened::new());
     move_named::<R, Brand, W>(rt, alloc, blank, opened, site)
