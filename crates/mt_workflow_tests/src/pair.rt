@@ -38,7 +38,7 @@ pub enum Step<'a> {
 }
 
 /// A value of these bytes, at most 64.
-fn value(bytes: &[u8]) -> Value {
+pub fn value(bytes: &[u8]) -> Value {
     let mut value = Value::new();
     let _fits = value.try_extend_from_slice(bytes);
     value

@@ -3,8 +3,8 @@ use Rattle.std.proofs.Common.{◌≡◌, true, sym, subst, ◌∙◌}
 use Rattle.std.specs.List.{list_any}
 use Rattle.mt_names.specs.Names.{same_text}
 use Rattle.mt_primary.specs.Primary.{has_table}
-use Rattle.mt_stream_tests.proofs.NameLemmas.{named-all}
-use Rattle.mt_stream_tests.proofs.pair.Pair.advance.Goals as goal
+use Rattle.mt_workflow_tests.proofs.NameLemmas.{named-all}
+use Rattle.mt_workflow_tests.proofs.pair.Pair.advance.Goals as goal
 
 pub advance-requires-clause-there : goal.advance-requires-clause-there
 advance-requires-clause-there c table is =
