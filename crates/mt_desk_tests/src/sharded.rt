@@ -1,13 +1,12 @@
 //! Workers over a target of two shards.
 
-use crate::opened::{Trial, tried};
+use crate::opened::{Trial, they_work};
 use crate::together::{ROWS, are_gathered, row_key, writes};
-use crate::turns::{is_at_rest, workflow};
+use crate::turns::{are_done, ends, workflow};
 use crossbeam_channel::{Sender, unbounded};
 use mt_desk::{Desk, DeskName, Pass};
 use mt_event::{Driven, Event, Reply, ShownLane};
-use mt_model::Op;
-use mt_names::{KeyspaceName, NameFault, TableName, TabletType, TypeSet, Value};
+use mt_names::{KeyspaceName, NameFault, TableName, TabletType, TypeSet};
 use mt_watch::Asks;
 use mt_workers::{Message, NoGate, controller, stream_worker};
 use mt_workflow::Slot;
@@ -15,8 +14,17 @@ use std::alloc::Global;
 use std::sync::Wait;
 use std::thread::{Threads, join};
 
-/// The first key of the second shard.
-const MIDDLE: u64 = 1 << 63;
+/// A row of each shard is written at the source.
+static AT_SOURCE: [&str; 2] = [
+    "at commerce.corder insert 1 a",
+    "at commerce.corder insert 9223372036854775808 b",
+];
+
+/// Another row of each is written at the target.
+static AT_TARGET: [&str; 2] = [
+    "at customer.corder insert 2 a",
+    "at customer.corder insert 9223372036854775809 b",
+];
 
 /// What is tried over two shards.
 #[derive(Clone, Copy)]
@@ -27,15 +35,6 @@ pub enum Sharded {
     Level,
     /// A stream worker, a controller and two clients at once.
     Race,
-}
-
-/// A write of a row.
-fn write_of(keyspace: &str, key: u64) -> Result<Event, NameFault> {
-    Ok(Event::Write {
-        keyspace: KeyspaceName::parse(keyspace)?,
-        table: TableName::parse("corder")?,
-        op: Op::Insert(key, Value::new()),
-    })
 }
 
 /// A read of a row for the primary.
@@ -53,30 +52,14 @@ fn are_written<R: Wait, D: DeskName, W: Asks + Drop>(
     rt: &R,
     desk: &Desk<D, W>,
     client: u16,
-    keyspace: &str,
-    keys: [u64; 2],
+    lines: &[&str],
 ) -> bool {
     let Ok(mut pass) = desk.pass(rt, client) else {
         return false;
     };
-    let [one, two] = keys;
-    let is_so = is_done(rt, desk, &mut pass, write_of(keyspace, one))
-        && is_done(rt, desk, &mut pass, write_of(keyspace, two));
+    let is_so = are_done(rt, desk, &mut pass, lines);
     drop(pass);
     is_so
-}
-
-/// Whether an event is done.
-fn is_done<R: Wait, D: DeskName, W: Asks + Drop>(
-    rt: &R,
-    desk: &Desk<D, W>,
-    pass: &mut Pass<D>,
-    event: Result<Event, NameFault>,
-) -> bool {
-    match event {
-        Ok(event) => matches!(desk.ask(rt, pass, event), Ok(Ok(Reply::Done))),
-        Err(_) => false,
-    }
 }
 
 /// Whether the forward stream of a lane stands there.
@@ -128,23 +111,6 @@ fn are_fed<R: Wait, D: DeskName, W: Asks + Drop>(
         turns,
     );
     let is_so = taken == turns && are_at(rt, desk, &mut pass, positions);
-    drop(pass);
-    is_so
-}
-
-/// Whether a controller for all types that may try a step twice is done, and just these types are switched then.
-fn is_switched<R: Wait, D: DeskName, W: Asks + Drop>(
-    rt: &R,
-    desk: &Desk<D, W>,
-    client: u16,
-    back: bool,
-    switched: TypeSet,
-) -> bool {
-    let (Some(name), Ok(pass)) = (workflow(), desk.pass(rt, client)) else {
-        return false;
-    };
-    let (mut pass, end) = controller(rt, &NoGate, desk, pass, 0, &name, TypeSet::ALL, back, 2);
-    let is_so = end == Ok(Driven::Done) && is_at_rest(rt, desk, &mut pass, switched);
     drop(pass);
     is_so
 }
@@ -252,37 +218,37 @@ pub fn over_shards<R: Threads + Wait + Sync, D: DeskName + Send + Sync, W: Asks 
 ) -> bool {
     match sharded {
         Sharded::Fed(turns, positions) => {
-            are_written(rt, desk, 3, "commerce", [1, MIDDLE]) && are_fed(rt, desk, turns, positions)
+            are_written(rt, desk, 3, &AT_SOURCE) && are_fed(rt, desk, turns, positions)
         }
         Sharded::Level => {
-            are_written(rt, desk, 3, "commerce", [1, MIDDLE])
-                && is_switched(rt, desk, 1, false, TypeSet::ALL)
-                && are_written(rt, desk, 4, "customer", [2, MIDDLE + 1])
-                && is_switched(rt, desk, 2, true, TypeSet::NONE)
+            are_written(rt, desk, 3, &AT_SOURCE)
+                && ends(rt, desk, 1, (false, 2), Driven::Done, TypeSet::ALL)
+                && are_written(rt, desk, 4, &AT_TARGET)
+                && ends(rt, desk, 2, (true, 2), Driven::Done, TypeSet::NONE)
         }
         Sharded::Race => is_raced(rt, alloc, desk),
     }
 }
 
 /// A stream worker with so many turns, and where the streams stand behind it.
-fn fed(turns: u64, positions: [u64; 2]) -> Trial {
+fn fed(turns: u64, positions: [u64; 2]) -> Trial<'static> {
     Trial::OverShards(Sharded::Fed(turns, positions))
 }
 
 #[test]
 fn a_stream_worker_goes_from_shard_to_shard(rt: HostRuntime) {
-    assert!(rt; tried(&rt, rt.alloc(), fed(1, [1, 0])));
-    assert!(rt; tried(&rt, rt.alloc(), fed(2, [1, 1])));
-    assert!(rt; tried(&rt, rt.alloc(), fed(3, [2, 1])));
-    assert!(rt; tried(&rt, rt.alloc(), fed(4, [2, 2])));
+    assert!(rt; they_work(&rt, rt.alloc(), fed(1, [1, 0])));
+    assert!(rt; they_work(&rt, rt.alloc(), fed(2, [1, 1])));
+    assert!(rt; they_work(&rt, rt.alloc(), fed(3, [2, 1])));
+    assert!(rt; they_work(&rt, rt.alloc(), fed(4, [2, 2])));
 }
 
 #[test]
 fn a_controller_feeds_both_shards(rt: HostRuntime) {
-    assert!(rt; tried(&rt, rt.alloc(), Trial::OverShards(Sharded::Level)));
+    assert!(rt; they_work(&rt, rt.alloc(), Trial::OverShards(Sharded::Level)));
 }
 
 #[test]
 fn workers_race_over_two_shards(rt: HostRuntime) {
-    assert!(rt; tried(&rt, rt.alloc(), Trial::OverShards(Sharded::Race)));
+    assert!(rt; they_work(&rt, rt.alloc(), Trial::OverShards(Sharded::Race)));
 }

@@ -1,6 +1,6 @@
 //! Two controllers and two clients at once: both controllers switch, or one switches and the other undoes.
 
-use crate::opened::{Trial, tried};
+use crate::opened::{Trial, they_work};
 use crate::turns::{is_at_rest, workflow};
 use crossbeam_channel::{Sender, unbounded};
 use mt_desk::{Desk, DeskName, Pass};
@@ -272,7 +272,7 @@ pub fn two_controllers<R: Threads + Wait + Sync, D: DeskName + Send + Sync, W: A
 
 #[test]
 fn two_controllers_switch_once(rt: HostRuntime) {
-    assert!(rt; tried(&rt, rt.alloc(), Trial::TwoControllers(false)));
+    assert!(rt; they_work(&rt, rt.alloc(), Trial::TwoControllers(false)));
 }
 
 /// How often a switch is undone while it is done.
@@ -281,6 +281,6 @@ const TIMES: u32 = 20;
 #[test]
 fn one_controller_switches_and_one_undoes(rt: HostRuntime) {
     for _ in 0..TIMES {
-        assert!(rt; tried(&rt, rt.alloc(), Trial::TwoControllers(true)));
+        assert!(rt; they_work(&rt, rt.alloc(), Trial::TwoControllers(true)));
     }
 }

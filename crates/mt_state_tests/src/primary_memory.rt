@@ -1,6 +1,7 @@
 //! Where an allocation fails, the answer is `Memory` or the one that there is without, and a refusal changes nothing.
 
-use mt_names::{TableName, TabletType, Value};
+use crate::primary::value;
+use mt_names::{TableName, TabletType};
 use mt_primary::{Op, Primary, PrimaryFault, RowChange, SharedName, SharedValue};
 use std::alloc::{AllocError, Global};
 
@@ -12,13 +13,6 @@ const BESIDE: [u8; 23] = [b'b'; 23];
 
 /// The longest value.
 const LONGEST: [u8; 64] = [b'c'; 64];
-
-/// A value of these bytes, at most 64.
-fn value(bytes: &[u8]) -> Value {
-    let mut value = Value::new();
-    let _fits = value.try_extend_from_slice(bytes);
-    value
-}
 
 /// Whether a table is made at once, or at a second try after a refusal that changed nothing.
 fn creates(primary: &mut Primary, table: &TableName) -> bool {
