@@ -1,8 +1,8 @@
 #!/usr/bin/env python3
 """Measures how long a stream takes to copy rows, and then to follow as many entries of the log.
 
-bench/streams.py [PROGRAM]: PROGRAM is crates/mt_stream_tests/out/mt_stream_tests_tests where none is named, which `rt test` in
-crates/mt_stream_tests leaves.
+bench/streams.py [PROGRAM]: PROGRAM is crates/mt_workflow_tests/out/mt_workflow_tests_tests where none is named, which `rt test` in
+crates/mt_workflow_tests leaves.
 
 Of a quarter of a million, half a million and a million rows with values of 16 bytes: a client inserts them at the source, a stream
 copies them to the sink, the client updates each, and the stream follows these entries, by advances of 1,000 at most. The same inserts
@@ -32,7 +32,7 @@ def seconds(program, test, rows):
 
 def main():
     top = pathlib.Path(__file__).resolve().parent.parent
-    program = sys.argv[1] if len(sys.argv) > 1 else str(top / "crates/mt_stream_tests/out/mt_stream_tests_tests")
+    program = sys.argv[1] if len(sys.argv) > 1 else str(top / "crates/mt_workflow_tests/out/mt_workflow_tests_tests")
     for rows in SIZES:
         written, streamed = seconds(program, "many_rows_are_written", rows), seconds(program, "many_rows_are_streamed", rows)
         took = streamed - written

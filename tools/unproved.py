@@ -1,14 +1,15 @@
 #!/usr/bin/env python3
 """Builds the program of these sources without running the proofs: in minutes, where the proofs take an hour.
 
-    tools/unproved.py [--tests CRATE] [--no-fills] [--no-hints] PROGRAM
+    tools/unproved.py [--tests CRATE | --crate CRATE] [--no-fills] [--no-hints] PROGRAM
 
 It is the same code as that of a proved build, but nobody has proved it: whoever runs it or measures it says so. `rt try` compiles the program with
 checks of its own, for LLVM; of that module the checks are taken out, and clang and the kit's linker make a program of it, with the flags of the
 kit. The sources' hints on inlining are set as they are in a proved build (`--no-hints` leaves them out). The instructions of the two builds
 differ by less than one in a hundred. `./mt` has `tools/build` call this; `bench/` measures such programs.
 
-`--tests` builds the tests of a crate in place of the program: with the name of a test behind it that runs, by itself.
+`--tests` builds the tests of a crate in place of the program: with the name of a test behind it that runs, by itself. `--crate` builds another program,
+as that of `mt_replay`.
 
 `--no-fills` also takes out the zeros with which each local that a function begins with is filled, to measure what they cost. A program may
 rest on them, so its outputs have to be compared: `bench/whole.py --beside` does.
@@ -45,6 +46,8 @@ GENERICS = re.compile(r"::<[^:]*>$")
 # What is put before a command, so that the system tells it to stop if whoever started it is killed.
 ENDS_WITH_US = ("setpriv", "--pdeathsig", "TERM")
 TARGET = "x86_64-unknown-linux-gnu"
+# What is built where nothing else is named: the program of this crate, by `rt try` with no more words.
+PROGRAM = ("mt_program", [])
 NOT_PASSED_ON = ("-O", "-fsanitize", "-Werror", "--sysroot", "-o", "-c", "-x")
 
 
@@ -103,11 +106,12 @@ def with_recorder(own, room):
     return made
 
 
-def compiled(top, own, room, tests=None):
-    """The lines of the module that `rt try` compiles: of the program, or of the tests of a crate."""
+def compiled(top, own, room, what):
+    """The lines of the module that `rt try` compiles of a crate, with these words: of its program, or of its tests."""
+    crate, more = what
     rt = with_recorder(own, room) / "bin/rt"
-    words = [sys.executable, rt, "try", *["--test"] * bool(tests)]
-    said, _ = called(words, room, cwd=top / "crates" / (tests or "mt_program"))
+    words = [sys.executable, rt, "try", *more]
+    said, _ = called(words, room, cwd=top / "crates" / crate)
     if not (room / "module.bc").exists():
         raise CannotBuild(f"`rt try` compiled no program: {said.strip()[-800:]}")
     words = [f"--target={TARGET}", "-S", "-emit-llvm", "-x", "ir", "-Xclang", "-disable-llvm-passes", "-w", room / "module.bc", "-o", room / "module.ll"]
@@ -184,11 +188,11 @@ def linked(own, room, program):
     done("the program isn't linked", [own / "bin/rattle-link", *words, own / "c/libos_c.a", own / "c/liblibc_c.a"], room)
 
 
-def build_in(room, top, program, stage, tests=None, with_hints=True, with_fills=True):
-    """Builds the program of the sources in a folder, or a crate's tests, in a room that is empty; each stage is told as it begins."""
+def build_in(room, top, program, stage, what=PROGRAM, with_hints=True, with_fills=True):
+    """Builds the program of the sources in a folder, a crate's tests, or another program, in a room that is empty; each stage is told as it begins."""
     own = kit()
     stage("1 of 3: compiling the sources")
-    lines = compiled(top, own, room, tests)
+    lines = compiled(top, own, room, what)
     stage("2 of 3: taking out the checks of a try")
     lines = stripped(lines, hints(top) if with_hints else {})
     lines = lines if with_fills else without_fills(lines)
@@ -205,12 +209,15 @@ def build(top, program, **which):
 
 def main():
     asked = argparse.ArgumentParser(description=__doc__.split("\n")[0])
-    asked.add_argument("--tests", metavar="CRATE")
+    of = asked.add_mutually_exclusive_group()
+    of.add_argument("--tests", metavar="CRATE")
+    of.add_argument("--crate", metavar="CRATE", default=PROGRAM[0])
     asked.add_argument("--no-fills", action="store_true")
     asked.add_argument("--no-hints", action="store_true")
     asked.add_argument("program")
     given = asked.parse_args()
-    build(TOP, given.program, tests=given.tests, with_hints=not given.no_hints, with_fills=not given.no_fills)
+    what = (given.tests, ["--test"]) if given.tests else (given.crate, [])
+    build(TOP, given.program, what=what, with_hints=not given.no_hints, with_fills=not given.no_fills)
 
 
 if __name__ == "__main__":

@@ -45,6 +45,15 @@ impl Played {
             None => Played::AllSo,
         }
     }
+
+    /// Whether it was so, where it is one act.
+    pub fn of(is_so: bool) -> Self {
+        if is_so {
+            Played::AllSo
+        } else {
+            Played::Wrong(0)
+        }
+    }
 }
 
 /// The place of a client's pass.

@@ -1,10 +1,9 @@
 //! A tell that memory cuts short between two entries leaves nothing behind, and the next one tells what stands then.
 
 use crate::acts::Played;
-use crate::desk_memory::pass_of;
 use crate::opened::{Trial, Watch, tried};
 use crate::route_acts::leads;
-use crate::told_memory::is_done;
+use crate::told_memory::{is_done, pass_of};
 use mt_desk::{Desk, DeskFault, DeskName, Pass};
 use mt_model::TopologyFault;
 use mt_names::{RuleKey, TabletType};

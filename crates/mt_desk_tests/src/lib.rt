@@ -1,6 +1,7 @@
 //! Callers of a desk, proved: two clients ask for an event each, and one looks a name up by what it told. Beside them stand tests by
 //! direct call: passes and what is gathered, routers and what they are told, clients and routers in threads, and those that pass
-//! whichever allocation fails.
+//! whichever allocation fails; and of workers at a desk, that they ask at once, what a collector keeps, each worker alone, and controllers
+//! that take over from one another.
 #![tactic(auto)]
 
 mod caller;
@@ -18,17 +19,15 @@ mod book_memory;
 #[cfg(test)]
 mod calls;
 #[cfg(test)]
+mod collecting;
+#[cfg(test)]
 mod cut_short;
 #[cfg(test)]
-mod desk_memory;
-#[cfg(test)]
-mod life;
-#[cfg(test)]
-mod memory;
-#[cfg(test)]
-mod no_memory;
+mod meeting;
 #[cfg(test)]
 mod opened;
+#[cfg(test)]
+mod racing;
 #[cfg(test)]
 mod reading;
 #[cfg(test)]
@@ -36,7 +35,7 @@ mod route_acts;
 #[cfg(test)]
 mod routes;
 #[cfg(test)]
-mod runs;
+mod sharded;
 #[cfg(test)]
 mod speed;
 #[cfg(test)]
@@ -44,8 +43,8 @@ mod texts;
 #[cfg(test)]
 mod threads;
 #[cfg(test)]
+mod together;
+#[cfg(test)]
 mod told_memory;
 #[cfg(test)]
-mod venue;
-#[cfg(test)]
-mod worked;
+mod turns;

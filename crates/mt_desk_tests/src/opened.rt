@@ -5,14 +5,14 @@ ghost use Rattle.mt_watch.specs.Notices.{notice_of};
 
 use crate::acts::{Act, Played, play};
 use crate::cut_short::is_cut_short_well;
-use crate::desk_memory::is_moved;
-use crate::life::Move;
-use crate::no_memory::is_given_up;
 use crate::reading::all_go_on;
+use crate::sharded::{Sharded, over_shards};
 use crate::speed::{Load, is_borne};
 use crate::texts::event_of;
 use crate::threads::two_ask;
+use crate::together::two_controllers;
 use crate::told_memory::is_told_all;
+use crate::turns::{Turns, in_turn};
 use mt_desk::{Desk, DeskFault, DeskName};
 use mt_event::{Reason, Refusal};
 use mt_names::KeyspaceName;
@@ -45,17 +45,38 @@ pub enum Trial<'a> {
     TwoThreads(u64),
     /// Routers read in four threads while a client edits a rule and each edit is told.
     Readers,
-    /// A move, where one allocation may fail.
-    OneFails(&'a Move),
-    /// A move that is given up, where all allocations may fail from one on.
-    AllFail,
     /// Routes that are told, where one allocation may fail.
     OneFailsTelling,
     /// Two rules that are told behind so many others, where one allocation may fail.
     OneFailsBetween(usize),
     /// Many calls and tellings.
     Load(Load),
+    /// Workers one after the other.
+    InTurn(Turns),
+    /// Two controllers and two clients at once; whether the second controller undoes what the first does.
+    TwoControllers(bool),
+    /// Workers over a target of two shards.
+    OverShards(Sharded),
 }
+
+/// A table that a workflow moves, of which no row is there yet.
+pub static MOVED: [&str; 5] = [
+    "keyspace commerce",
+    "keyspace customer",
+    "table commerce corder",
+    "create mv commerce customer corder",
+    "advance mv forward 0 100",
+];
+
+/// One that it moves to two shards.
+static MOVED_TO_TWO: [&str; 6] = [
+    "keyspace commerce",
+    "keyspace customer -80,80-",
+    "table commerce corder",
+    "create mv commerce customer corder",
+    "advance mv forward/-80 0 100",
+    "advance mv forward/80- 0 100",
+];
 
 /// A watcher of a scope, which may refuse whatever it is asked.
 fn watcher_of(alloc: Global, scope: Scope, refuses: bool) -> Option<Watcher> {
@@ -172,12 +193,12 @@ fn goes<D: DeskName + Send + Sync, W: Asks + Drop + Send, R: Threads + Wait + Sy
         Trial::Acts(acts) => play(rt, alloc, desk, acts),
         Trial::TwoThreads(asks) => two_ask(rt, alloc, desk, asks),
         Trial::Readers => all_go_on(rt, alloc, desk),
-        Trial::OneFails(of) => is_moved(rt, alloc, desk, of),
-        Trial::AllFail => is_given_up(rt, desk),
         Trial::OneFailsTelling => is_told_all(rt, desk),
         Trial::OneFailsBetween(others) => is_cut_short_well(rt, desk, others),
-        Trial::Load(load) if is_borne(rt, alloc, desk, load) => Played::AllSo,
-        Trial::Load(_) => Played::Wrong(0),
+        Trial::Load(load) => Played::of(is_borne(rt, alloc, desk, load)),
+        Trial::InTurn(turns) => Played::of(in_turn(rt, desk, turns)),
+        Trial::TwoControllers(undoes) => Played::of(two_controllers(rt, alloc, desk, undoes)),
+        Trial::OverShards(sharded) => Played::of(over_shards(rt, alloc, desk, sharded)),
     }
 }
 
@@ -247,4 +268,13 @@ pub fn tried<R: Threads + Wait + Sync>(
         Played::NotMade => tried_once(rt, alloc, watch, before, trial),
         played => played,
     }
+}
+
+/// Whether workers do what they should at a desk whose controller has copied what they move.
+pub fn they_work<R: Threads + Wait + Sync>(rt: &R, alloc: Global, trial: Trial<'_>) -> bool {
+    let before = match trial {
+        Trial::OverShards(_) => MOVED_TO_TWO.as_slice(),
+        _ => MOVED.as_slice(),
+    };
+    tried(rt, alloc, Watch::Routes, before, trial) == Played::AllSo
 }

@@ -127,11 +127,7 @@ pub fn all_go_on<D: DeskName + Send + Sync, W: Asks + Drop + Send, R: Threads + 
         || join(rt, || two_read_on(rt, desk), || two_read_on(rt, desk)) == (true, true),
         || edits_on(rt, alloc, desk),
     );
-    if four_read && is_told {
-        Played::AllSo
-    } else {
-        Played::Wrong(0)
-    }
+    Played::of(four_read && is_told)
 }
 
 #[test]

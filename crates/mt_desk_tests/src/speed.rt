@@ -2,7 +2,7 @@
 //! and measures how long they take.
 
 use crate::acts::{Played, asks};
-use crate::opened::{Trial, Watch, tried};
+use crate::opened::{MOVED, Trial, Watch, tried};
 use crate::threads::calls;
 use mt_desk::{Desk, DeskName, Pass};
 use mt_watch::Asks;
@@ -12,15 +12,6 @@ use std::sync::Wait;
 use std::test::Fail;
 use std::thread::{Threads, map_indices};
 
-/// A table that a workflow moves, with twelve rules.
-static MOVED: [&str; 5] = [
-    "keyspace commerce",
-    "keyspace customer",
-    "table commerce corder",
-    "create mv commerce customer corder",
-    "advance mv forward 0 100",
-];
-
 /// How many there are of each.
 #[derive(Clone, Copy)]
 pub struct Load {
@@ -28,7 +19,7 @@ pub struct Load {
     threads: u64,
     /// Calls of each thread.
     calls: u64,
-    /// Rules that the first thread sets, beside those of the workflow.
+    /// Rules that the first thread sets, beside the twelve of the workflow.
     rules: u64,
     /// Edits of the first of these rules.
     edits: u64,

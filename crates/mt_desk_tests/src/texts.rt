@@ -10,7 +10,7 @@ use mt_script::{
     read,
 };
 
-/// The event that a line asks for; none if it asks for none, for several, where a name leads, or in a shard that has a range.
+/// The event that a line asks for; none if it asks for none, for several, where a name leads, or in a shard of more than two.
 pub fn event_of(line: &str) -> Option<Event> {
     match read(line.as_bytes()) {
         Line::Keyspace(name, shards) => Some(Event::AddKeyspace {
@@ -67,15 +67,17 @@ fn create(words: CreateWords<'_>) -> Option<Event> {
     })
 }
 
-/// An advance of a stream of a target that isn't sharded.
-fn in_one_shard(workflow: WorkflowName, words: &AdvanceWords<'_>) -> Option<Event> {
-    if words.range != "-" {
-        return None;
-    }
+/// An advance of a stream in the one shard of a target, or in one of two halves.
+fn advance(workflow: WorkflowName, words: &AdvanceWords<'_>) -> Option<Event> {
+    let shard = match words.range {
+        "-" | "-80" => 0,
+        "80-" => 1,
+        _ => return None,
+    };
     Some(Event::Advance {
         workflow,
         stream: words.stream,
-        shard: 0,
+        shard,
         at: words.at,
         max: words.max,
     })
@@ -85,7 +87,7 @@ fn in_one_shard(workflow: WorkflowName, words: &AdvanceWords<'_>) -> Option<Even
 fn event_asked(name: &str, asked: WorkflowAsked<'_>) -> Option<Event> {
     let workflow = WorkflowName::parse(name).ok()?;
     match asked {
-        WorkflowAsked::Advance(words) => in_one_shard(workflow, &words),
+        WorkflowAsked::Advance(words) => advance(workflow, &words),
         WorkflowAsked::BeginSwitch(types) => Some(Event::BeginSwitch {
             workflow,
             types: TypeSet::parse(types).ok()?,

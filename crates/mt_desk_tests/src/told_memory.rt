@@ -1,7 +1,6 @@
 //! Where an allocation fails, what is to be told is refused, a refusal shows nothing, and the next try tells it.
 
 use crate::acts::Played;
-use crate::desk_memory::pass_of;
 use crate::opened::{Trial, Watch, tried};
 use crate::route_acts::leads;
 use crate::texts::event_of;
@@ -25,6 +24,18 @@ static RULES: [(&str, &str); 4] = [
     ("rule x commerce.cart", "commerce.cart"),
     ("rule x customer.cart", "customer.cart"),
 ];
+
+/// A client's pass, at once or at a second try.
+pub fn pass_of<D: DeskName, W: Asks + Drop>(
+    rt: &impl Wait,
+    desk: &Desk<D, W>,
+    client: u16,
+) -> Option<Pass<D>> {
+    match desk.pass(rt, client) {
+        Ok(pass) => Some(pass),
+        Err(_) => desk.pass(rt, client).ok(),
+    }
+}
 
 /// Whether a line is done, at once or at a second try.
 pub fn is_done<D: DeskName, W: Asks + Drop>(

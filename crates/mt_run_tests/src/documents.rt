@@ -1,7 +1,7 @@
 //! Documents behind a line, and documents that are written in their canonical form.
 
 use crate::faults::{NoRoom, reader_of, writer_with};
-use crate::scripts::{Case, answers, prints};
+use crate::scripts::Case;
 use mt_run::{canon_dump, canon_rules};
 use mt_script::ScriptFault;
 use std::alloc::Global;
@@ -11,50 +11,6 @@ use std::test::Fail;
 /// The dump of two keyspaces, of which `b` has the table `t`.
 const TWO: &str =
     "{\"denied\":[],\"keyspaces\":[{\"name\":\"a\",\"shards\":[\"-\"],\"tables\":[]},{\"name\":\"b\",\"shards\":[\"-\"],\"tables\":[\"t\"]}],\"rules\":[],\"version\":2}";
-
-/// Two keyspaces, and their dump.
-const DUMPED: [(&str, &str); 4] = [
-    ("keyspace b", "ok"),
-    ("keyspace a", "ok"),
-    ("table b t", "ok"),
-    ("dump", TWO),
-];
-
-#[test]
-fn dump_of_two_keyspaces(rt: HostRuntime) -> Result<(), Fail> {
-    assert!(rt; answers(rt.alloc(), &DUMPED)?);
-    Ok(())
-}
-
-/// Rules that are set and taken away, and their documents.
-const LISTED: [(&str, &str); 10] = [
-    ("rules", "{\"rules\":[]}"),
-    (
-        "dump",
-        "{\"denied\":[],\"keyspaces\":[],\"rules\":[],\"version\":2}",
-    ),
-    ("rule b k.b", "ok"),
-    ("rule a@replica k.a", "ok"),
-    (
-        "rules",
-        "{\"rules\":[{\"from_table\":\"a@replica\",\"to_tables\":[\"k.a\"]},{\"from_table\":\"b\",\"to_tables\":[\"k.b\"]}]}",
-    ),
-    ("rule a@replica -", "ok"),
-    (
-        " rules\t",
-        "{\"rules\":[{\"from_table\":\"b\",\"to_tables\":[\"k.b\"]}]}",
-    ),
-    ("rules b", "refused X1 BadLine"),
-    ("dump -", "refused X1 BadLine"),
-    ("Rules", "refused X1 BadLine"),
-];
-
-#[test]
-fn rules_in_a_script(rt: HostRuntime) -> Result<(), Fail> {
-    assert!(rt; answers(rt.alloc(), &LISTED)?);
-    assert!(rt; prints(rt.alloc(), b"rules", b"{\"rules\":[]}\n"));
-    Ok(())
-}
 
 /// Which document is read.
 #[derive(Clone, Copy, Eq, PartialEq)]

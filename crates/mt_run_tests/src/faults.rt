@@ -1,7 +1,6 @@
 //! Readers and writers that give or take little, are interrupted, or fail.
 
 use crate::scripts::{Case, ends};
-use crate::whole_switches::REVERSED;
 use mt_choice::keyspaces;
 use mt_names::KeyspaceName;
 use mt_run::{run_script, run_watched};
@@ -295,6 +294,29 @@ fn output_in_pieces(rt: HostRuntime) -> Result<(), Fail> {
     assert!(rt; writes(rt.alloc(), case.script(), slow, Ok(()), case.want()));
     Ok(())
 }
+
+/// Traffic is switched and sent back, and no write is lost.
+const REVERSED: [(&str, &str); 16] = [
+    ("keyspace commerce", "ok"),
+    ("keyspace customer", "ok"),
+    ("table commerce corder", "ok"),
+    ("insert corder 1 a", "ok"),
+    ("create mv commerce customer corder", "ok"),
+    ("advance mv forward 1 100", "events 0 rows 1"),
+    ("switch mv all", "ok"),
+    ("insert corder 2 b", "ok"),
+    ("append corder 1 x", "ok"),
+    ("advance mv back 1 100", "events 2 rows 0"),
+    ("reverse mv all", "ok"),
+    ("get corder 1", "row ax"),
+    ("get corder 2", "row b"),
+    (
+        "show mv",
+        "mv commerce customer corder switched - way none forward running 3 copied back none",
+    ),
+    ("append corder 1 y", "ok"),
+    ("get corder 1", "row axy"),
+];
 
 /// Whether a case's script that is read so ends so, where these keyspaces are watched, and what was written is this.
 fn reads_watched(

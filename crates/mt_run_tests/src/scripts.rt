@@ -1,7 +1,6 @@
 //! Scripts and what they print.
 
-use mt_choice::keyspaces;
-use mt_run::{run_script, run_watched};
+use mt_run::run_script;
 use mt_script::ScriptFault;
 use mt_watch::Watchers;
 use std::alloc::Global;
@@ -72,53 +71,11 @@ impl Case {
     pub fn holds(&self, alloc: Global) -> bool {
         prints(alloc, self.script(), self.want())
     }
-
-    /// Whether the script prints what it must where watchers stand for the primaries of these keyspaces.
-    fn holds_watched(&self, alloc: Global, watched: &[&str]) -> bool {
-        let Ok(names) = keyspaces(watched) else {
-            return false;
-        };
-        let mut script = self.script();
-        let mut written = Vec::new(alloc);
-        let result = run_watched(alloc, &mut script, &mut written, &names);
-        result == Ok(()) && written.as_slice() == self.want()
-    }
-}
-
-/// Whether lines are answered so, each of which has an answer.
-pub fn answers(alloc: Global, lines: &[(&str, &str)]) -> Result<bool, Fail> {
-    let mut case = Case::new(alloc);
-    case.lines(lines)?;
-    Ok(case.holds(alloc))
 }
 
 /// Whether a script ends well, having printed a text.
 pub fn prints(alloc: Global, mut script: &[u8], want: &[u8]) -> bool {
     ends(alloc, &mut script, Ok(()), want)
-}
-
-/// Whether lines are answered so, each of which has an answer, where watchers stand for the primaries of these keyspaces.
-pub fn answers_watched(
-    alloc: Global,
-    watched: &[&str],
-    lines: &[(&str, &str)],
-) -> Result<bool, Fail> {
-    let mut case = Case::new(alloc);
-    case.lines(lines)?;
-    Ok(case.holds_watched(alloc, watched))
-}
-
-/// Whether lists of lines, one behind the other, are answered so where those watchers stand.
-pub fn answers_in_turn(
-    alloc: Global,
-    watched: &[&str],
-    lists: &[&[(&str, &str)]],
-) -> Result<bool, Fail> {
-    let mut case = Case::new(alloc);
-    for lines in lists {
-        case.lines(lines)?;
-    }
-    Ok(case.holds_watched(alloc, watched))
 }
 
 /// Whether a script that a reader gives ends so, having printed a text.
@@ -143,34 +100,11 @@ fn first_wrong(alloc: Global, scripts: &[(&[u8], &[u8])]) -> Option<usize> {
     None
 }
 
-const GET_WITHOUT_A_RULE: &[u8] = b"keyspace commerce\nkeyspace customer\ntable commerce corder\n\
-insert corder 1 a\nget corder 1";
-
-const AMBIGUOUS_NAME: &[u8] = b"keyspace commerce\nkeyspace customer\ntable commerce corder\n\
-table customer corder\ninsert commerce.corder 1 a\nget corder 1\nget commerce.corder 1\n";
-
-const GET_BACK_THROUGH_A_RULE: &[u8] = b"keyspace commerce\ntable commerce corder\n\
-rule c commerce.corder\ninsert c 1 a\nget c 1\n";
-
-/// Scripts, each with what it must print.
-const WORKED: [(&[u8], &[u8]); 4] = [
-    (b"", b""),
-    (GET_WITHOUT_A_RULE, b"ok\nok\nok\nok\nrow a\n"),
-    (
-        AMBIGUOUS_NAME,
-        b"ok\nok\nok\nok\nok\nrefused T3 Ambiguous\nrow a\n",
-    ),
-    (GET_BACK_THROUGH_A_RULE, b"ok\nok\nok\nok\nrow a\n"),
-];
-
-#[test]
-fn worked_rows(rt: HostRuntime) {
-    assert_eq!(rt; first_wrong(rt.alloc(), &WORKED), None);
-}
-
 /// Ends of lines.
-const ENDS: [(&[u8], &[u8]); 9] = [
+const ENDS: [(&[u8], &[u8]); 11] = [
+    (b"", b""),
     (b"keyspace a", b"ok\n"),
+    (b"rules", b"{\"rules\":[]}\n"),
     (b"keyspace a\n", b"ok\n"),
     (b"keyspace a\r\nkeyspace b\r\n", b"ok\nok\n"),
     (b"keyspace a\r\r\n", b"refused X1 BadLine\n"),
@@ -236,6 +170,42 @@ fn lines_at_their_limit(rt: HostRuntime) -> Result<(), Fail> {
     let mut silent = Case::new(rt.alloc());
     long_silent_lines(&mut silent)?;
     assert!(rt; silent.holds(rt.alloc()));
+    Ok(())
+}
+
+/// A line that blanks make too long.
+fn long_line(case: &mut Case, line: &str) -> Result<(), Fail> {
+    case.add(line.as_bytes(), b"refused X2 LineTooLong\n")?;
+    case.repeat(b' ', 4097)?;
+    case.add(b"\n", b"")
+}
+
+/// Lines that are refused or answered where they aren't too long.
+const LINES: [&str; 9] = [
+    "\x01",
+    "frobnicate",
+    "keyspace",
+    "keyspace -a",
+    "get t 1",
+    "get a.t 1",
+    "get a.t x",
+    "rules x",
+    "dump",
+];
+
+/// Tries those lines, each too long.
+fn too_long_lines(case: &mut Case) -> Result<(), Fail> {
+    for line in LINES.iter() {
+        long_line(case, line)?;
+    }
+    Ok(())
+}
+
+#[test]
+fn a_long_line_is_told_first(rt: HostRuntime) -> Result<(), Fail> {
+    let mut case = Case::new(rt.alloc());
+    too_long_lines(&mut case)?;
+    assert!(rt; case.holds(rt.alloc()));
     Ok(())
 }
 

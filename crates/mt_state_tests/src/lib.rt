@@ -1,4 +1,4 @@
-//! Tests of the topology and the primaries by direct call.
+//! Tests of the topology and the primaries by direct call, some of them such that they pass whichever allocation fails.
 #![tactic(auto)]
 
 #[cfg(test)]
@@ -7,6 +7,8 @@ mod dumps;
 mod phases;
 #[cfg(test)]
 mod primary;
+#[cfg(test)]
+mod primary_memory;
 #[cfg(test)]
 mod purges;
 #[cfg(test)]
@@ -19,3 +21,5 @@ mod rows;
 mod streams;
 #[cfg(test)]
 mod topology;
+#[cfg(test)]
+mod topology_memory;

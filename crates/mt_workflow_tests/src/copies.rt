@@ -5,6 +5,7 @@ ghost use Rattle.mt_stream.specs.Streams.{StreamValue};
 ghost use Rattle.mt_workflow.specs.Workflows.{slot_of};
 
 use crate::made::SHARDED;
+use crate::pair::primary_with;
 use mt_names::{KeyRange, KeyspaceName, TableName, TabletType, Value, WorkflowName};
 use mt_primary::{Op, Primary};
 use mt_topology::Topology;
@@ -24,18 +25,9 @@ static KEYS: [u64; 8] = [
     (1 << 61) + (1 << 62) + (1 << 63),
 ];
 
-/// A primary that has this table, without rows.
-fn empty_primary(alloc: Global, table: &TableName) -> Result<Primary, Fail> {
-    let mut primary = Primary::new(alloc);
-    if primary.has_table(table) || primary.create_table(table).is_err() {
-        return Err(Fail::from("no table"));
-    }
-    Ok(primary)
-}
-
-/// One that has a row of each eighth of all keys.
+/// A primary that has the table `t`, with a row of each eighth of all keys.
 fn full_primary(alloc: Global, table: &TableName) -> Result<Primary, Fail> {
-    let mut primary = empty_primary(alloc, table)?;
+    let mut primary = primary_with(alloc, &["t"])?;
     for key in KEYS {
         if primary.write(table, Op::Insert(key, Value::new())).is_err() {
             return Err(Fail::from("no row"));
@@ -116,7 +108,7 @@ fn copies_its_own(alloc: Global, target: &str, shard: usize, count: u16) -> Resu
     let table = TableName::parse("t")?;
     let topology = Topology::load(alloc, SHARDED.as_bytes())?;
     let source = full_primary(alloc, &table)?;
-    let mut sink = empty_primary(alloc, &table)?;
+    let mut sink = primary_with(alloc, &["t"])?;
     let mut workflow = workflow_at(alloc, &topology, target, &table, source.position())?;
     let rows = rows_copied(&mut workflow, shard, &table, &source, &mut sink);
     let answer = rows == Some(count)

@@ -52,13 +52,18 @@ fn workflow_with(
     }
 }
 
-/// Such a workflow of the tables that a text lists, over the topology of the dump.
-pub fn workflow_of(alloc: Global, listed: &str) -> Result<Workflow, Fail> {
-    let tables = table_list(listed)?;
+/// Such a workflow of these tables, over the topology of the dump.
+pub fn workflow_naming(alloc: Global, tables: &[TableName]) -> Result<Workflow, Fail> {
     let topology = Topology::load(alloc, DUMP.as_bytes())?;
-    let made = workflow_with(alloc, &topology, &tables);
+    let made = workflow_with(alloc, &topology, tables);
     drop(topology);
     made
+}
+
+/// One of the tables that a text lists.
+pub fn workflow_of(alloc: Global, listed: &str) -> Result<Workflow, Fail> {
+    let tables = table_list(listed)?;
+    workflow_naming(alloc, &tables)
 }
 
 /// One that moves the table `t` to this keyspace, over the topology of keyspaces with shards.

@@ -1,7 +1,7 @@
 //! A workflow by direct calls.
 
-use crate::made::workflow_of;
-use mt_names::{KeyRange, KeyspaceName, TableName, TypeSet, table_list};
+use crate::made::{workflow_naming, workflow_of};
+use mt_names::{KeyRange, KeyspaceName, NameFault, TableName, TypeSet, table_list};
 use mt_stream::{Stream, StreamState};
 use mt_workflow::{Slot, Way, Workflow};
 use std::test::Fail;
@@ -66,6 +66,27 @@ fn a_new_workflow_is_as_it_was_asked_for(rt: HostRuntime) -> Result<(), Fail> {
     let answer = as_asked(&workflow, &tables);
     drop(workflow);
     assert!(rt; answer == [true, true, true, true]);
+    Ok(())
+}
+
+/// Two tables, of which the first is named again, twice, behind the second.
+fn named_again() -> Result<[TableName; 4], NameFault> {
+    Ok([
+        TableName::parse("y")?,
+        TableName::parse("t")?,
+        TableName::parse("y")?,
+        TableName::parse("y")?,
+    ])
+}
+
+// No script names a table twice: its list of tables is refused before.
+#[test]
+fn a_table_named_twice_is_moved_once_in_its_first_place(rt: HostRuntime) -> Result<(), Fail> {
+    let (named, once) = (named_again()?, table_list("y,t")?);
+    let workflow = workflow_naming(rt.alloc(), &named)?;
+    let answer = has_tables(&workflow, &once);
+    drop(workflow);
+    assert!(rt; answer);
     Ok(())
 }
 
