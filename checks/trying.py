@@ -196,11 +196,10 @@ def state_of(said: dict[str, str], path: str) -> str:
     return REFUSED if any(state_of(said, it) == REFUSED for it in own) else UNSETTLED
 
 
-def is_by_name(told: str, path: str, crate: str) -> bool:
+def is_by_name(told: str, path: str) -> bool:
     """Whether all that is told of a function's proof is that it names what is gone."""
-    folder = "proofs/" + "/".join(path.split("::")[1:])
-    lines = [line for line in told.splitlines() if folder in line and ("error" in line or "note" in line)]
-    errors = [line for line in lines if ": error" in line]
+    folder = "proofs/" + "/".join(path.split("::")[1:]) + "/"
+    errors = [line for line in told.splitlines() if folder in line and ": error" in line]
     return bool(errors) and all(map(BY_NAME.search, errors))
 
 
@@ -210,7 +209,7 @@ def settled(told: str, crate: str, bodies: list[Body]) -> Iterator[tuple[Body, s
     for body in bodies:
         paths = [path for it in body.turned for path in said if it.is_at(crate, path)]
         states = {path: state_of(said, path) for path in paths}
-        refused = [path for path, state in states.items() if state == REFUSED and not is_by_name(told, path, crate)]
+        refused = [path for path, state in states.items() if state == REFUSED and not is_by_name(told, path)]
         if refused:
             yield body, REFUSED, f"{refused[0]}: {said[refused[0]]}"
         elif len(paths) < len(body.turned) or all(it != UNSETTLED for it in states.values()):
@@ -237,7 +236,8 @@ def rounds(copy: Copy, crate: str, bodies: list[Body]) -> Iterator[tuple[Body, s
         batch = copy.put(one_a_function(left))
         told = copy.checked()
         if not FUNCTION.search(told):
-            left = [body for body in left if body not in unread(told, batch)]
+            gone = unread(copy, told, batch)
+            left = [body for body in left if body not in gone]
             continue
         done = [(body, state, why) for body, state, why in settled(told, crate, batch) if state != UNSETTLED]
         yield from ((body, why) for body, state, why in done if state == REFUSED)
@@ -246,11 +246,12 @@ def rounds(copy: Copy, crate: str, bodies: list[Body]) -> Iterator[tuple[Body, s
         left = [body for body in left if body not in gone]
 
 
-def unread(told: str, batch: list[Body]) -> list[Body]:
-    """Those of a batch that a check couldn't read: those whose files it names, or all if it names none."""
-    files = set(re.findall(r"(src/[\w/]+\.rt):\d+:\d+: error", told))
-    named = [body for body in batch if files & {path for path, _, _ in body.pairs}]
-    return named or batch
+def unread(copy: Copy, told: str, batch: list[Body]) -> list[Body]:
+    """Those of a batch that a check couldn't read: those whose functions it names, or all if it names none."""
+    named = set()
+    for path, row in re.findall(r"(src/[\w/]+\.rt):(\d+):\d+: error", told):
+        named.add(function_at(path, (copy.crate / path).read_text().splitlines(), int(row) - 1))
+    return [body for body in batch if body.turned & named] or batch
 
 
 def alone(copy: Copy, body: Body) -> str:
@@ -259,7 +260,7 @@ def alone(copy: Copy, body: Body) -> str:
         return "BAD EDIT: a text that it turns doesn't stand there once"
     told = copy.checked()
     lines = [line for line in told.splitlines() if PLACE.match(line)]
-    errors = [line for line in lines if ": error" in line] or lines
+    errors = [line for line in lines if ": error" in line or line.startswith("note: ")] or lines
     first = errors[0][:200] if errors else ""
     if re.search(r"^logic=proved", told, re.M):
         return "NOT REFUSED: the crate is still proved with it"
@@ -275,10 +276,8 @@ def tried(top: pathlib.Path, crate: str, edits: list[pathlib.Path]) -> Iterator[
     bodies = [body_of(edit) for edit in edits]
     with tempfile.TemporaryDirectory(prefix="mt-bodies-") as room:
         copy = Copy(copied(top, crate, pathlib.Path(room)), top / "crates" / crate)
-        done = set()
+        refused = set()
         for body, why in rounds(copy, crate, bodies):
-            done.add(body.edit)
+            refused.add(body.edit)
             yield body.edit, f"{REFUSED_SO}: {why[:200]}"
-        for body in bodies:
-            if body.edit not in done:
-                yield body.edit, alone(copy, body)
+        yield from ((body.edit, alone(copy, body)) for body in bodies if body.edit not in refused)

@@ -1,3 +1,2 @@
-mod CallerLemmas
 mod GivingUpLemmas
 mod PrefixLemmas

@@ -1,12 +1,8 @@
 //! Passes, what they are answered with, and what is gathered.
 
 use crate::acts::{Act, Played};
-use crate::opened::{Trial, Watch, site_of, tried, two_watchers};
-use crate::texts::{event_of, is_written};
-use crate::two_calls;
-use mt_desk::{Answer, DeskFault};
-use std::alloc::Global;
-use std::sync::Wait;
+use crate::opened::{Trial, Watch, tried};
+use mt_desk::DeskFault;
 use std::test::Fail;
 
 /// One keyspace with one table.
@@ -52,27 +48,6 @@ fn each_call_is_gathered_once(rt: HostRuntime) -> Result<(), Fail> {
         );
     }
     Ok(())
-}
-
-/// What an insert and a get of its row are answered, by two clients.
-fn both_answers<R: Wait>(rt: &R, alloc: Global) -> Option<(Answer, Answer)> {
-    let insert = event_of("at commerce.corder insert 1 a")?;
-    let get = event_of("at commerce.corder get 1")?;
-    let watchers = two_watchers(alloc)?;
-    match site_of(alloc, watchers, &TABLE) {
-        Some(site) => two_calls(rt, alloc, site, insert, get),
-        None => None,
-    }
-}
-
-#[test]
-fn two_calls_are_answered(rt: HostRuntime) {
-    assert!(rt;
-        match both_answers(&rt, rt.alloc()) {
-            Some((insert, get)) => is_written(&insert, "ok") && is_written(&get, "row a"),
-            None => false,
-        }
-    );
 }
 
 /// How each refusal is printed.

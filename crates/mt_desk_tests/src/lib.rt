@@ -1,14 +1,12 @@
-//! Callers of a desk, proved: two clients ask for an event each, and one looks a name up by what it told. Beside them stand tests by
+//! Callers of a desk, proved: one gives a move up at a book, and one looks a name up by what it told. Beside them stand tests by
 //! direct call: passes and what is gathered, routers and what they are told, clients and routers in threads, and those that pass
 //! whichever allocation fails; and of workers at a desk, that they ask at once, what a collector keeps, each worker alone, and controllers
 //! that take over from one another.
 #![tactic(auto)]
 
-mod caller;
 mod giving_up;
 mod routing;
 
-pub use caller::two_calls;
 pub use giving_up::{GivenUp, given_up_at_a_book};
 pub use routing::route_told;
 
