@@ -1,8 +1,6 @@
 //! What the two moves are about: tables of `commerce`, which has one shard, that go to `customer`, which has two.
-ghost use Rattle.std.specs.Prelude.{◌≡◌, [], ◌∷◌, None, codes, map};
-ghost use Rattle.mt_event.specs.Events.{event_of};
+ghost use Rattle.std.specs.Prelude.{◌≡◌, [], None, codes};
 ghost use Rattle.mt_model.specs.declared.rows.Op.TheVariants.{Insert};
-ghost use Rattle.mt_plain.specs.Events as plain;
 ghost use Rattle.mt_caller.specs.Moves.{second};
 
 use arrayvec::ArrayVec;
@@ -12,16 +10,12 @@ use mt_site::{Event, KeyspaceName, Op, RuleKey, ShardList, Slot, TableName, Valu
 pub(crate) const SHARDS: u8 = 2;
 
 /// The keyspace that the tables move from.
-pub(crate) fn source() -> KeyspaceName
-    ensures { result ≡ codes "commerce" }
-{
+pub(crate) fn source() -> KeyspaceName {
     KeyspaceName::parse("commerce").unwrap()
 }
 
 /// The keyspace that they move to.
-pub(crate) fn target() -> KeyspaceName
-    ensures { result ≡ codes "customer" }
-{
+pub(crate) fn target() -> KeyspaceName {
     KeyspaceName::parse("customer").unwrap()
 }
 
@@ -90,11 +84,7 @@ pub(crate) fn keyspaces_and_tables() -> [Event; 4] {
 }
 
 /// The workflow that moves a table, and the copy of it to both shards.
-pub(crate) fn create_and_copy(workflow: &WorkflowName, table: TableName) -> [Event; 3]
-    ensures { map event_of result
-        ≡ plain.create workflow.now (codes "commerce") (codes "customer") (table ∷ []) ∷ plain.advance workflow.now plain.forward 0 2 100
-        ∷ plain.advance workflow.now plain.forward 1 2 100 ∷ [] }
-{
+pub(crate) fn create_and_copy(workflow: &WorkflowName, table: TableName) -> [Event; 3] {
     let mut tables = ArrayVec::new_in(());
     tables.push(table);
     [
@@ -110,9 +100,7 @@ pub(crate) fn create_and_copy(workflow: &WorkflowName, table: TableName) -> [Eve
 }
 
 /// The copy to one shard, of at most 100 rows. It begins behind what the source's log has then: the two rows of the first table.
-fn copy(workflow: &WorkflowName, shard: u8) -> Event
-    ensures { event_of result ≡ plain.advance workflow.now plain.forward shard 2 100 }
-{
+fn copy(workflow: &WorkflowName, shard: u8) -> Event {
     Event::Advance {
         workflow: workflow.copied(),
         stream: Slot::Forward,

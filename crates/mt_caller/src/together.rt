@@ -1,20 +1,17 @@
 //! A table that moves while clients ask for it: a desk, its workers, and a router.
-ghost use Rattle.std.specs.Prelude.{◌≡◌, ◌++◌, [], ◌∷◌, true, Ok, IfSome, map};
-ghost use Rattle.std.specs.List.{range_with_len};
-ghost use Rattle.mt_desk.specs.Histories.{call};
+ghost use Rattle.std.specs.Prelude.{◌≡◌, [], ◌∷◌, true, IfSome, map};
 ghost use Rattle.mt_desk.specs.Passes.{HaveOneHistory};
-ghost use Rattle.mt_event.specs.declared.reply.Reply.{Reply};
 ghost use Rattle.mt_site.specs.Stood.{IsCoreWith};
-ghost use Rattle.mt_caller.specs.Moves.{AreTaken, IsMoved, IsOfClient, IsOfController, IsOfFeeder, create_events, line};
+ghost use Rattle.mt_caller.specs.Moves.{AreOne, IsOfClient, IsOfController, IsOfFeeder, inserts};
 
 use crate::names::{SHARDS, by_name, create_and_copy, insert, product, second, target};
 use mt_desk::{Desk, DeskFault, DeskName, Opened, Pass};
-use mt_site::{Asks, Driven, Event, Site, Slot, TabletType, TypeSet};
+use mt_site::{Asks, Driven, Site, Slot, TabletType, TypeSet};
 use mt_workers::{
     Line, Message, NoGate, Sender, controller, query_worker, stream_worker, unbounded,
 };
 use std::alloc::Global;
-use std::marker::Brand;
+use std::marker::{Brand, PhantomData};
 use std::sync::Wait;
 use std::sync::ledger::Blank;
 use std::thread::{Threads, join};
@@ -24,15 +21,7 @@ const ROWS: u64 = 32;
 
 const BETWEEN: u64 = 1 << 59;
 
-/// The pass of who made the workflow and had the table copied.
-#[derive(Drop)]
-struct Created<D: DeskName> {
-    pass: Pass<D>,
-    ghost client: { pass.client ≡ 1 },
-    ghost taken: { AreTaken create_events pass.calls.items },
-}
-
-/// The pass of the client that inserts, and was answered each row.
+/// The pass of the client that inserts: it asked for all rows, and was answered each.
 #[derive(Drop)]
 struct Wrote<D: DeskName> {
     pass: Pass<D>,
@@ -48,7 +37,7 @@ struct Fed<D: DeskName> {
     ghost advanced: { IsOfFeeder pass.calls.items },
 }
 
-/// The pass of the controller that has switched the traffic.
+/// The pass of the controller that has switched the traffic of all types.
 #[derive(Drop)]
 struct Switched<D: DeskName> {
     pass: Pass<D>,
@@ -56,35 +45,22 @@ struct Switched<D: DeskName> {
     ghost controlled: { IsOfController pass.calls.items },
 }
 
-/// Asks for an event. Answers the pass, if it was taken.
-fn ask_taken<R: Wait, D: DeskName, W: Asks + Drop>(
-    rt: &R,
-    desk: &Desk<D, W>,
-    mut pass: Pass<D>,
-    event: Event,
-) -> Option<Pass<D>>
-    ensures client { IfSome result (λ after. after.client ≡ pass.client) }
-    ensures taken { IfSome result (λ after. (reply : Reply) × (after.calls.items ≡ pass.calls.items ++ call event (Ok reply) ∷ [])) }
-{
-    match desk.ask(rt, &mut pass, event) {
-        Ok(Ok(_)) => Some(pass),
-        _ => None,
-    }
-}
-
 /// Makes the workflow, and copies the table. Answers the pass of who asked for it, if all was taken.
-fn create<R: Wait, D: DeskName, W: Asks + Drop>(rt: &R, desk: &Desk<D, W>) -> Option<Created<D>> {
-    let [made, low, high] = create_and_copy(&second(), product());
-    let pass = desk.pass(rt, 1).ok()?;
-    let pass = ask_taken(rt, desk, pass, made)?;
-    let pass = ask_taken(rt, desk, pass, low)?;
-    let pass = ask_taken(rt, desk, pass, high)?;
-    Some(Created { pass })
+fn create<R: Wait, D: DeskName, W: Asks + Drop>(rt: &R, desk: &Desk<D, W>) -> Option<Pass<D>>
+    ensures { IfSome result (λ pass. pass.client ≡ 1) }
+{
+    let mut pass = desk.pass(rt, 1).ok()?;
+    for event in create_and_copy(&second(), product()) {
+        if !matches!(desk.ask(rt, &mut pass, event), Ok(Ok(_))) {
+            return None;
+        }
+    }
+    Some(pass)
 }
 
-/// The inserts of all rows, by the table's name.
+/// The inserts of all rows, by the table's name: half of them in either shard of the target.
 fn inserts(alloc: Global) -> Option<Vec<Line>>
-    ensures { IfSome result (λ lines. lines.items ≡ map line (range_with_len 0 32)) }
+    ensures { IfSome result (λ lines. lines.items ≡ inserts 32) }
 {
     let mut lines = Vec::new(alloc);
     for row in 0..ROWS {
@@ -94,7 +70,7 @@ fn inserts(alloc: Global) -> Option<Vec<Line>>
     Some(lines)
 }
 
-/// Inserts rows by the table's name, half of them in either shard of the target. Answers the client's pass, if each was answered.
+/// Inserts all rows. Answers the client's pass, if each was answered.
 fn write<R: Wait, D: DeskName, W: Asks + Drop>(
     rt: &R,
     alloc: Global,
@@ -173,31 +149,41 @@ fn leads_on<R: Wait, D: DeskName, W: Asks + Drop>(rt: &R, desk: &Desk<D, W>) -> 
     }
 }
 
-/// Hands in the passes of a move. Answers whether one legal history has just their calls.
+/// That one legal history has just the calls of all four who took part in a move at a desk, as they are said to be.
+#[derive(Drop)]
+struct Moved<D: DeskName> {
+    /// Where the table's name leads behind it: to the target, or still elsewhere.
+    leads_on: bool,
+    name: PhantomData<D>,
+    ghost one: { AreOne (HaveOneHistory D.scopes D.opening) },
+}
+
+/// Hands in the passes of a move, and looks the table up behind it. Answers that they are gathered, if they are.
 fn gather<R: Wait, D: DeskName, W: Asks + Drop>(
     rt: &R,
     alloc: Global,
     desk: &Desk<D, W>,
-    created: Created<D>,
-    wrote: Wrote<D>,
-    fed: Fed<D>,
-    switched: Switched<D>,
-) -> bool
-    ensures { result ≡ true → IsMoved D.scopes D.opening }
+    passes: (Pass<D>, Wrote<D>, Fed<D>, Switched<D>),
+) -> Option<Moved<D>>
+    requires { passes.0.client ≡ 1 }
 {
-    let passes = [created.pass, wrote.pass, fed.pass, switched.pass];
-    are_gathered(rt, alloc, desk, passes)
+    let (created, wrote, fed, switched) = passes;
+    let passes = [created, wrote.pass, fed.pass, switched.pass];
+    if !are_gathered(rt, alloc, desk, passes) {
+        return None;
+    }
+    Some(Moved {
+        leads_on: leads_on(rt, desk),
+        name: PhantomData,
+    })
 }
 
-/// Moves the second table, while a client writes to it. Answers whether its name leads to the target then, if one legal history has just the calls of
-/// all four.
+/// Moves the second table, while a client writes to it. Answers that all four who took part have one legal history, if so it is.
 fn move_at<R: Threads + Wait + Sync, D: DeskName + Send + Sync, W: Asks + Drop + Send>(
     rt: &R,
     alloc: Global,
     desk: &Desk<D, W>,
-) -> Option<bool>
-    ensures { IfSome result (λ leads. IsMoved D.scopes D.opening) }
-{
+) -> Option<Moved<D>> {
     let created = create(rt, desk)?;
     let (sender, _receiver) = unbounded(alloc).ok()?;
     let sender = &sender;
@@ -206,10 +192,7 @@ fn move_at<R: Threads + Wait + Sync, D: DeskName + Send + Sync, W: Asks + Drop +
         move || write(rt, alloc, desk, sender),
         move || join(rt, move || feed(rt, desk), move || switch(rt, desk)),
     );
-    if !gather(rt, alloc, desk, created, wrote?, fed?, switched?) {
-        return None;
-    }
-    Some(leads_on(rt, desk))
+    gather(rt, alloc, desk, (created, wrote?, fed?, switched?))
 }
 
 /// The same at a desk that is opened for it, under the name of a blank.
@@ -225,7 +208,7 @@ fn move_named<R: Threads + Wait + Sync, D: DeskName + Send + Sync, W: Asks + Dro
     requires opening { site.core ≡ D.opening }
     requires scopes { W.scopes site.watchers ≡ D.scopes }
     requires stood { IsCoreWith D.scopes site.core }
-    ensures { result ≡ true → IsMoved D.scopes D.opening }
+    ensures { result ≡ true → AreOne (HaveOneHistory D.scopes D.opening) }
 {
     let made: Result<Desk<D, W>, DeskFault> = Desk::open(alloc, rt, blank, opened, site);
     let Ok(desk) = made else {
@@ -234,7 +217,7 @@ fn move_named<R: Threads + Wait + Sync, D: DeskName + Send + Sync, W: Asks + Dro
     let moved = move_at(rt, alloc, &desk);
     desk.close(rt);
     match moved {
-        Some(leads_on) => leads_on,
+        Some(moved) => moved.leads_on,
         None => false,
     }
 }
@@ -247,7 +230,7 @@ pub(crate) fn move_together<R: Threads + Wait + Sync, W: Asks + Drop + Send>(
     site: Site<W>,
 ) -> bool
     requires { IsCoreWith (W.scopes site.watchers) site.core }
-    ensures { result ≡ true → IsMoved (W.scopes site.watchers) site.core }
+    ensures { result ≡ true → AreOne (HaveOneHistory (W.scopes site.watchers) site.core) }
 {
     let (blank, opened) = (Blank::new(1), Opened::new());
     move_named::<R, Brand, W>(rt, alloc, blank, opened, site)
