@@ -1,11 +1,12 @@
 //! Where memory may run out.
-ghost use Rattle.std.specs.Prelude.{◌∷◌, [], None, Some};
+ghost use Rattle.std.specs.Prelude.{◌≡◌, ◌∷◌, [], None, Some, false};
 ghost use Rattle.mt_names.specs.declared.types.TabletType.TheVariants.{Primary, Replica};
 ghost use Rattle.mt_names.specs.Types.{all_types};
 ghost use Rattle.mt_model.specs.declared.rows.Op.TheVariants.{Delete};
 ghost use Rattle.mt_plain.specs.Answers.{Answers};
 ghost use Rattle.mt_plain.specs.Events.{add_keyspace, add_table, advance, back, begin_reverse, begin_switch, cancel};
 ghost use Rattle.mt_plain.specs.Events.{complete, edit_rule, forward, memory, read, refused, show, step, undo, write};
+ghost use Rattle.mt_plain.specs.Refuse.{may_grow};
 ghost use Rattle.mt_worked.specs.FreeAnswers.{behind_half_copied, behind_not_copied, behind_switch, to_source};
 ghost use Rattle.mt_worked.specs.FreeAnswers.{with_steps};
 ghost use Rattle.mt_worked.specs.Scripts.{a_table};
@@ -61,24 +62,24 @@ pub fn what_does_not_grow_needs_no_memory()
     ensures an_advance_over_a_row_behind_those_copied { ¬ (Answers behind_half_copied (advance mv forward 0 2 1)
         (refused memory)) }
     ensures an_advance_over_another_shard { ¬ (Answers one_behind (advance mv forward 1 2 100) (refused memory)) }
-    ensures an_advance_with_nothing_to_feed_back { ¬ (Answers switched (advance mv back 0 1 100) (refused memory)) }
+    ensures an_advance_with_nothing_to_feed_back { may_grow switched (advance mv back 0 1 100) ≡ false }
     ensures a_step_from_another_number { ¬ (Answers stepped (step mv 3) (refused memory)) }
     ensures an_undo_of_the_begin { ¬ (Answers opened (undo mv 0) (refused memory)) }
     ensures an_undo_of_a_refresh { ¬ (Answers refreshed (undo mv 3) (refused memory)) }
     ensures a_cancel { ¬ (Answers copied (cancel mv) (refused memory)) }
-    ensures a_complete { ¬ (Answers switched (complete mv) (refused memory)) }
+    ensures a_complete { may_grow switched (complete mv) ≡ false }
     ensures a_show { ¬ (Answers live (show mv) (refused memory)) }
 {}
 
 /// Of the twelve steps three may grow something; these are the others.
 pub fn nine_steps_need_no_memory()
-    ensures reads_to_the_target { ¬ (Answers opened (step mv 0) (refused memory)) }
-    ensures denial_of_the_source { ¬ (Answers (with_steps 1) (step mv 1) (refused memory)) }
-    ensures catching_up { ¬ (Answers (with_steps 3) (step mv 3) (refused memory)) }
-    ensures end_of_feeding { ¬ (Answers (with_steps 4) (step mv 4) (refused memory)) }
-    ensures a_stream_back { ¬ (Answers (with_steps 5) (step mv 5) (refused memory)) }
-    ensures allowing_the_target { ¬ (Answers (with_steps 7) (step mv 7) (refused memory)) }
-    ensures plain_names_to_the_target { ¬ (Answers (with_steps 9) (step mv 9) (refused memory)) }
-    ensures start_of_the_stream_back { ¬ (Answers (with_steps 10) (step mv 10) (refused memory)) }
-    ensures freezing_the_stream_forward { ¬ (Answers (with_steps 11) (step mv 11) (refused memory)) }
+    ensures reads_to_the_target { may_grow opened (step mv 0) ≡ false }
+    ensures denial_of_the_source { may_grow (with_steps 1) (step mv 1) ≡ false }
+    ensures catching_up { may_grow (with_steps 3) (step mv 3) ≡ false }
+    ensures end_of_feeding { may_grow (with_steps 4) (step mv 4) ≡ false }
+    ensures a_stream_back { may_grow (with_steps 5) (step mv 5) ≡ false }
+    ensures allowing_the_target { may_grow (with_steps 7) (step mv 7) ≡ false }
+    ensures plain_names_to_the_target { may_grow (with_steps 9) (step mv 9) ≡ false }
+    ensures start_of_the_stream_back { may_grow (with_steps 10) (step mv 10) ≡ false }
+    ensures freezing_the_stream_forward { may_grow (with_steps 11) (step mv 11) ≡ false }
 {}

@@ -1,5 +1,5 @@
 -- Whole drives: where answers are free, the answer of each turn; where none is, the end that is computed.
-use Rattle.std.proofs.Common.{◌≡◌, true, false, refl, subst, None, Some, Ok, Err}
+use Rattle.std.proofs.Common.{◌≡◌, refl, subst, None, Some, Ok, Err}
 use Rattle.mt_names.specs.Types.{all_types, no_types}
 use Rattle.mt_plain.specs.Answers.{Answers, Refuses}
 use Rattle.mt_plain.specs.Drive.{Drives, GoesOn, begins, heard}

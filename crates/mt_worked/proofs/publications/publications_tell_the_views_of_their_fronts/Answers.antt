@@ -1,5 +1,5 @@
 -- Views by the test that computes; what is no view lacks an entry, has one twice, or has one that is not served.
-use Rattle.std.proofs.Common.{◌≡◌, ◌≤◌, true, false, [], ◌∷◌, codes, AllPairs, None, Some, is_some, unwrap_or, refl}
+use Rattle.std.proofs.Common.{◌≡◌, ◌≤◌, true, false, [], ◌∷◌, AllPairs, None, Some, is_some, unwrap_or, refl}
 use Rattle.std.proofs.Common.{sym, ap, arith}
 use Rattle.std.proofs.lemmas.Bool.{true≢false}
 use Rattle.std.proofs.lemmas.List.Elements.{All-from_recursion, All-nil}
