@@ -2,9 +2,9 @@
 
 use crate::asked::{Asked, advance_at, asked_by, times};
 use crate::at_site::AtSite;
-use crate::playing::{Play, Wrong};
+use crate::playing::{Differs, Play, Wrong};
 use crate::plays::Step;
-use crate::told::{Kind, Told};
+use crate::told::{Answer, Kind, Told};
 use crate::venue::Venue;
 use mt_event::Event;
 use mt_names::WorkflowName;
@@ -37,7 +37,7 @@ fn wrong_at<'a>(step: &Step<'a>, told: Told) -> Option<Wrong<'a>> {
     Some(Wrong {
         step: *step,
         told,
-        why: "",
+        differs: Differs::Answer,
     })
 }
 
@@ -57,7 +57,7 @@ fn run<'a, W: Asks>(
 }
 
 /// The first step that is answered otherwise.
-fn first_other<'a>(steps: &[Step<'a>], answers: &[crate::told::Answer]) -> Option<Wrong<'a>> {
+fn first_other<'a>(steps: &[Step<'a>], answers: &[Answer]) -> Option<Wrong<'a>> {
     for (step, answer) in steps.iter().zip(answers.iter()) {
         let told = Told::of_answer(answer);
         if !told.is(step.want) {
