@@ -6,8 +6,8 @@
 use crate::told::Told;
 use mt_event::Event;
 use mt_names::{
-    KeyRange, KeyspaceName, NameFault, RuleKey, RuleTarget, ShardList, TableName, TypeSet,
-    WorkflowName, table_list,
+    KeyRange, KeyspaceName, NameFault, RuleKey, RuleTarget, ShardList, TableName, TabletType,
+    TypeSet, WorkflowName, table_list,
 };
 use mt_script::{AdvanceWords, CreateWords, Line, QualifiedName, RowAsked, WorkflowAsked, read};
 
@@ -219,8 +219,8 @@ pub fn row_there(target: RuleTarget, key: &RuleKey, asked: &RowAsked<'_>) -> Eve
 }
 
 /// The type that a name is for.
-pub fn type_of(key: &RuleKey) -> mt_names::TabletType {
-    key.tablet_type.unwrap_or(mt_names::TabletType::Primary)
+pub fn type_of(key: &RuleKey) -> TabletType {
+    key.tablet_type.unwrap_or(TabletType::Primary)
 }
 
 /// How often a line is asked, and the line.

@@ -2,9 +2,9 @@
 
 use crate::asked::{Asked, advance_at, asked_by, times};
 use crate::at_site::AtSite;
-use crate::playing::{Play, Wrong};
+use crate::playing::{Differs, Play, Wrong};
 use crate::plays::Step;
-use crate::told::{Kind, Told};
+use crate::told::{Answer, Kind, Told};
 use crate::venue::Venue;
 use mt_event::Event;
 use mt_names::WorkflowName;
@@ -37,7 +37,7 @@ fn wrong_at<'a>(step: &Step<'a>, told: Told) -> Option<Wrong<'a>> {
     Some(Wrong {
         step: *step,
         told,
-        why: "",
+        differs: Differs::Answer,
     })
 }
 
@@ -51,13 +51,17 @@ fn run<'a, W: Asks>(
     let Ok(answers) = run_events(alloc, site, events) else {
         return wrong_at(steps.first()?, Told::out_of_memory());
     };
-    let found = first_other(steps, answers.as_slice());
+    let found = if answers.len() == events.len() {
+        first_other(steps, answers.as_slice())
+    } else {
+        wrong_at(steps.first()?, Told::of_text(b"another number of answers"))
+    };
     drop(answers);
     found
 }
 
 /// The first step that is answered otherwise.
-fn first_other<'a>(steps: &[Step<'a>], answers: &[crate::told::Answer]) -> Option<Wrong<'a>> {
+fn first_other<'a>(steps: &[Step<'a>], answers: &[Answer]) -> Option<Wrong<'a>> {
     for (step, answer) in steps.iter().zip(answers.iter()) {
         let told = Told::of_answer(answer);
         if !told.is(step.want) {

@@ -1,7 +1,7 @@
 //! A play as a script, by `run_script`: what no script says is left out.
 
 use crate::asked::{Asked, asked_by, times};
-use crate::playing::{Play, Wrong};
+use crate::playing::{Differs, Play, Wrong};
 use crate::plays::Step;
 use crate::told::Told;
 use mt_run::{ScriptFault, run_script};
@@ -86,7 +86,7 @@ fn wrong_at<'a>(step: &Step<'a>, told: Told) -> Option<Wrong<'a>> {
     Some(Wrong {
         step: *step,
         told,
-        why: "",
+        differs: Differs::Answer,
     })
 }
 

@@ -93,7 +93,7 @@ fn looks_of<'a>(alloc: Global, plays: &Plays<'a>) -> Result<Vec<Step<'a>>, FileF
     }
 }
 
-/// The play that ends with a part.
+/// The play that ends with a part, with so much memory.
 fn play_of<'a>(
     alloc: Global,
     plays: &Plays<'a>,
@@ -116,24 +116,37 @@ fn play_of<'a>(
     })
 }
 
-/// Tells what went otherwise.
-fn tell_wrong(rt: &impl Print, place: &str, road: Road, wrong: &Wrong<'_>) -> io::Result<()> {
+/// A play of a file, by their names.
+#[derive(Clone, Copy)]
+struct Place<'a> {
+    file: &'a str,
+    play: &'a str,
+}
+
+/// Tells which line went otherwise, how it was to be answered, and what was told.
+fn tell_wrong(rt: &impl Print, place: Place<'_>, road: &str, wrong: &Wrong<'_>) -> io::Result<()> {
+    let (file, play) = (place.file, place.play);
+    let (number, line, want) = (wrong.step.number, wrong.step.line, wrong.step.want);
+    let what = wrong.differs.text();
     let told = str::from_utf8(wrong.told.text()).unwrap_or("?");
     let beside = str::from_utf8(wrong.told.beside()).unwrap_or("?");
-    let (number, line, want) = (wrong.step.number, wrong.step.line, wrong.step.want);
-    let (road, why) = (road.name(), wrong.why);
-    println!(rt; "{place} by {road}: line {number}: {line}: {want}, but {told}{beside} {why}")
+    println!(rt; "{file}:{number}: {line}")?;
+    println!(rt; "  in the play '{play}', by {road}: {what} is otherwise")?;
+    println!(rt; "  wanted: {want}")?;
+    println!(rt; "  told:   {told}{beside}")
 }
 
 /// Whether a play goes as it must by a road; tells it if not.
 fn is_played<R: Runtime + AllocGlobal + Wait>(
     rt: &R,
     alloc: Global,
-    name: &str,
+    place: Place<'_>,
     play: &Play<'_>,
     road: Road,
 ) -> io::Result<bool> {
-    match played(rt, alloc, play, road) {
+    let gone = played(rt, alloc, play, road);
+    let road = road.name();
+    match gone {
         Gone::AllSo => Ok(true),
         Gone::NotMade if play.memory == Memory::AllFail => Ok(true),
         Gone::NotMade => {
@@ -141,28 +154,29 @@ fn is_played<R: Runtime + AllocGlobal + Wait>(
             Ok(false)
         }
         Gone::Ungathered => {
-            println!(rt; "{name}: the calls weren't gathered")?;
+            let (file, name) = (place.file, place.play);
+            println!(rt; "{file}: play '{name}', by {road}: its calls weren't gathered")?;
             Ok(false)
         }
         Gone::Wrong(wrong) => {
-            tell_wrong(rt, name, road, &wrong)?;
+            tell_wrong(rt, place, road, &wrong)?;
             drop(wrong);
             Ok(false)
         }
     }
 }
 
-/// How many roads a play goes otherwise by.
+/// By how many roads a play goes otherwise.
 fn wrong_roads<R: Runtime + AllocGlobal + Wait>(
     rt: &R,
     alloc: Global,
-    name: &str,
+    place: Place<'_>,
     play: &Play<'_>,
     roads: &[Road],
 ) -> io::Result<u64> {
     let mut wrong = 0u64;
     for road in roads {
-        if !is_played(rt, alloc, name, play, *road)? {
+        if !is_played(rt, alloc, place, play, *road)? {
             wrong = wrong.saturating_add(1);
         }
     }
@@ -173,6 +187,7 @@ fn wrong_roads<R: Runtime + AllocGlobal + Wait>(
 fn play_all<R: Runtime + AllocGlobal + Wait>(
     rt: &R,
     alloc: Global,
+    file: &str,
     plays: &Plays<'_>,
     wanted: &Wanted,
 ) -> io::Result<(u64, u64)> {
@@ -185,7 +200,8 @@ fn play_all<R: Runtime + AllocGlobal + Wait>(
             rt.eprintln("fault Memory")?;
             return Ok((count, wrong.saturating_add(1)));
         };
-        let more = wrong_roads(rt, alloc, name, &play, wanted.roads.as_slice())?;
+        let named = Place { file, play: name };
+        let more = wrong_roads(rt, alloc, named, &play, wanted.roads.as_slice())?;
         drop(play);
         wrong = wrong.saturating_add(more);
         count = count.saturating_add(1);
@@ -208,11 +224,11 @@ fn play_file<R: Runtime + AllocGlobal + Wait>(
             return Ok(1);
         }
         Err(FileFault::Line(number)) => {
-            println!(rt; "{name}: line {number}")?;
+            println!(rt; "{name}:{number}: no line of a play")?;
             return Ok(1);
         }
     };
-    let (count, wrong) = play_all(rt, alloc, &plays, wanted)?;
+    let (count, wrong) = play_all(rt, alloc, name, &plays, wanted)?;
     drop(plays);
     if wrong == 0 {
         println!(rt; "{name}: {count}")?;

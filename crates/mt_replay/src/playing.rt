@@ -50,15 +50,40 @@ pub struct Turn<'p, 'a> {
     pub step: Step<'a>,
 }
 
-/// What went otherwise.
+/// What of a step differs from what it must be.
+#[derive(Clone, Copy, Debug, Eq, PartialEq)]
+pub enum Differs {
+    /// Its answer.
+    Answer,
+    /// What stands behind it, where it was refused out of memory, or cut short.
+    State,
+    /// Its answer at a second try, behind one that was refused out of memory.
+    SecondTry,
+    /// The rest of an advance that was cut short.
+    Rest,
+}
+
+impl Differs {
+    /// What is said of it.
+    pub fn text(self) -> &'static str {
+        match self {
+            Differs::Answer => "the answer",
+            Differs::State => "what stands behind it, out of memory,",
+            Differs::SecondTry => "the answer at a second try",
+            Differs::Rest => "the rest of it",
+        }
+    }
+}
+
+/// A step that went otherwise.
 #[derive(Drop)]
 pub struct Wrong<'a> {
     /// The step.
     pub step: Step<'a>,
     /// What was told.
     pub told: Told,
-    /// What else is to be said of it.
-    pub why: &'static str,
+    /// What of it differs.
+    pub differs: Differs,
 }
 
 /// How a play goes on.
@@ -73,7 +98,7 @@ enum Next<'a> {
 }
 
 /// Whether a line may be refused so out of memory.
-pub fn wants_memory(told: &Told, asked: &Asked<'_>, want: &str) -> bool {
+fn wants_memory(told: &Told, asked: &Asked<'_>, want: &str) -> bool {
     match told.kind {
         Kind::Owed => want != "ok",
         Kind::Memory => !matches!(
@@ -137,26 +162,30 @@ fn cut_short<'a, V: Venue, R: Wait>(
     let step = turn.step;
     let asked = asked_by(step.line);
     let Asked::Advance(workflow, range, words) = &asked else {
-        return stopped(step, told, "");
+        return stopped(step, told, Differs::Answer);
     };
     let Some((at, max, more)) = left_of(words, did, step.want) else {
-        return stopped(step, told, "");
+        return stopped(step, told, Differs::Answer);
     };
     let taken = did.events.saturating_add(did.rows);
     let less = asked_from(workflow, range, words, words.at, taken);
     if !stands_as(rt, venue, turn, Some((&less, &told))) {
-        return stopped(step, told, "stands otherwise");
+        return stopped(step, told, Differs::State);
     }
     let rest = venue.tell(rt, &asked_from(workflow, range, words, at, max));
     match rest.advanced {
         Some(Advanced { events, rows }) if (events, rows) == more => Next::On,
-        _ => stopped(step, rest, "the rest of it"),
+        _ => stopped(step, rest, Differs::Rest),
     }
 }
 
-/// A step that went otherwise.
-fn stopped<'a>(step: Step<'a>, told: Told, why: &'static str) -> Next<'a> {
-    Next::Stop(Wrong { step, told, why })
+/// A step that went otherwise, so that the play goes no further.
+fn stopped<'a>(step: Step<'a>, told: Told, differs: Differs) -> Next<'a> {
+    Next::Stop(Wrong {
+        step,
+        told,
+        differs,
+    })
 }
 
 /// What goes otherwise with a line that was refused out of memory: all stands as before it, and at a second try it is answered as it must be.
@@ -168,13 +197,13 @@ fn again<'a, V: Venue, R: Wait>(
     told: Told,
 ) -> Next<'a> {
     if !stands_as(rt, venue, turn, None) {
-        return stopped(turn.step, told, "stands otherwise");
+        return stopped(turn.step, told, Differs::State);
     }
     let second = venue.tell(rt, asked);
     if second.is(turn.step.want) {
         return Next::On;
     }
-    stopped(turn.step, second, "at a second try")
+    stopped(turn.step, second, Differs::SecondTry)
 }
 
 /// How a step that wasn't answered as it must be goes on.
@@ -192,7 +221,7 @@ fn otherwise<'a, V: Venue, R: Wait>(
             again(rt, venue, turn, asked, told)
         }
         (Memory::AllFail, _) if !is_last => Next::Over,
-        _ => stopped(turn.step, told, ""),
+        _ => stopped(turn.step, told, Differs::Answer),
     }
 }
 
