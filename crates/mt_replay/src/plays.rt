@@ -13,6 +13,15 @@ pub enum FileFault {
     Line(u64),
 }
 
+/// The fault of what found no memory to be kept; none if it was kept.
+pub fn kept(is_kept: bool) -> Result<(), FileFault> {
+    if is_kept {
+        Ok(())
+    } else {
+        Err(FileFault::Memory)
+    }
+}
+
 /// A line, and how it is to be answered.
 #[derive(Clone, Copy, Debug)]
 pub struct Step<'a> {
@@ -91,10 +100,7 @@ impl<'a> Plays<'a> {
             line,
             want: "ok",
         };
-        match self.steps.push(step) {
-            Ok(()) => Ok(()),
-            Err(_) => Err(FileFault::Memory),
-        }
+        kept(self.steps.push(step).is_ok())
     }
 
     /// The answer that the last line wants.
@@ -131,10 +137,7 @@ impl<'a> Plays<'a> {
             first: self.steps.len(),
             is_last: name != LOOKS,
         };
-        match self.parts.push(part) {
-            Ok(()) => Ok(()),
-            Err(_) => Err(FileFault::Memory),
-        }
+        kept(self.parts.push(part).is_ok())
     }
 
     /// How many parts there are.
@@ -178,9 +181,7 @@ impl<'a> Plays<'a> {
             let Some(place) = at else {
                 break;
             };
-            if places.push(place).is_err() {
-                return Err(FileFault::Memory);
-            }
+            kept(places.push(place).is_ok())?;
             at = match self.parts.get(place) {
                 Some(part) => part.after,
                 None => None,
@@ -205,8 +206,8 @@ impl<'a> Plays<'a> {
 /// Adds steps, without those that say who watches.
 fn add_steps<'a>(steps: &mut Vec<Step<'a>>, more: &[Step<'a>]) -> Result<(), FileFault> {
     for step in more {
-        if !step.line.starts_with("watch ") && steps.push(*step).is_err() {
-            return Err(FileFault::Memory);
+        if !step.line.starts_with("watch ") {
+            kept(steps.push(*step).is_ok())?;
         }
     }
     Ok(())
