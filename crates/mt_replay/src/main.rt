@@ -1,8 +1,10 @@
-//! Replays files of plays: scripts with their answers, by each road that leads to the controller.
+//! Replays files of plays: scripts with their answers, by each road that leads to the controller. What a file says
+//! stands in docs/PLAYS.md.
 //!
 //!     mt_replay [apply|list|ones|desk|script].. [one-fails|all-fail] FILE..
 //!
-//! Without a road each play goes by all of them but `ones`. It prints what goes otherwise, and of each file how many plays it has.
+//! Without a road each play goes by all of them but `ones`. It prints what goes otherwise, and of each file how
+//! many plays it has.
 #![tactic(auto)]
 
 mod asked;

@@ -1,6 +1,7 @@
-//! Files of plays. A file has parts, each with a head `== NAME` or `== NAME, after OTHER` and its lines; the lines of a part that goes on from
-//! another come behind that one's. A play is a part from which no other goes on, with all that comes before it. Below a line stands, with two
-//! spaces before it, how it is to be answered: where nothing stands there, it is to be `ok`.
+//! Files of plays. A file has parts, each with a head `== NAME` or `== NAME, after OTHER` and its lines; the lines
+//! of a part that goes on from another come behind that one's. A play is a part from which no other goes on, with
+//! all that comes before it. Below a line stands, with two spaces before it, how it is to be answered: where
+//! nothing stands there, it is to be `ok`.
 
 use std::alloc::Global;
 

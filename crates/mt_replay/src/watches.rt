@@ -1,7 +1,7 @@
 //! Who watches in a play: `watch K` is a watcher of the primary of a keyspace, which tells each change, and
-//! `watch K refuses deny T N` one that refuses the change of number N, from 0, among those that deny this table, or all of them with `always` in
-//! the place of the number; with `allow`, among those that allow it. The routers' watcher comes last. Where a play says nothing of watchers,
-//! those of `commerce` and `customer` are there.
+//! `watch K refuses deny T N` one that refuses the change of number N, from 0, among those that deny this table, or
+//! all of them with `always` in the place of the number; with `allow`, among those that allow it. The routers'
+//! watcher comes last. Where a play says nothing of watchers, those of `commerce` and `customer` are there.
 ghost use Rattle.std.specs.Prelude.{◌≡◌, IfOk};
 ghost use Rattle.mt_watch.specs.Notices.{notice_of};
 
