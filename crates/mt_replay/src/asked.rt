@@ -1,7 +1,8 @@
-//! What a line asks for. Besides the lines of a script there are six that none has: `owed`, how many events are owed to the live workflows;
-//! `leads NAME`, where a name leads; `log K` and `log K RANGE`, the position of the first entry that the log of a keyspace's first shard keeps, or
-//! of the shard of this range, and that of its end; `shard N advance ..`, an advance in the shard at this place; `N times LINE`, a line again and
-//! again; and `without memory`, behind which no line needs any.
+//! What a line asks for. Besides the lines of a script there are six that none has: `owed`, how many events are
+//! owed to the live workflows; `leads NAME`, where a name leads; `log K` and `log K RANGE`, the position of the
+//! first entry that the log of a keyspace's first shard keeps, or of the shard of this range, and that of its end;
+//! `shard N advance ..`, an advance in the shard at this place; `N times LINE`, a line again and again; and
+//! `without memory`, behind which no line needs any.
 
 use crate::told::Told;
 use mt_event::Event;

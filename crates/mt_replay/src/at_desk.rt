@@ -1,5 +1,5 @@
-//! A desk that is asked one line after the other, by two clients in turn; names are looked up by a router that is told each time, and a whole
-//! switch, once it is begun, is a controller's. In the end the passes are gathered.
+//! A desk that is asked one line after the other, by two clients in turn; names are looked up by a router that is
+//! told each time, and a whole switch, once it is begun, is a controller's. In the end the passes are gathered.
 ghost use Rattle.std.specs.Prelude.{◌≡◌};
 ghost use Rattle.mt_site.specs.Stood.{IsCoreWith};
 

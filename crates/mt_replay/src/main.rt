@@ -1,8 +1,10 @@
-//! Replays files of plays: scripts with their answers, by each road that leads to the controller.
+//! Replays files of plays: scripts with their answers, by each road that leads to the controller. What a file says
+//! stands in docs/PLAYS.md.
 //!
 //!     mt_replay [apply|list|ones|desk|script].. [one-fails|all-fail] FILE..
 //!
-//! Without a road each play goes by all of them but `ones`. It prints what goes otherwise, and of each file how many plays it has.
+//! Without a road each play goes by all of them but `ones`. It prints what goes otherwise, and of each file how
+//! many plays it has.
 #![tactic(auto)]
 
 mod asked;
@@ -20,7 +22,7 @@ mod watches;
 
 use crate::at_desk::Gone;
 use crate::playing::{Memory, Play, Wrong};
-use crate::plays::{FileFault, Plays, Step, read_plays};
+use crate::plays::{FileFault, Plays, Step, kept, read_plays};
 use crate::roads::{Road, played};
 use crate::watches::read_watches;
 use std::alloc::Global;
@@ -53,15 +55,6 @@ fn take(wanted: &mut Wanted, word: String) -> Result<(), FileFault> {
         }
     }
     Ok(())
-}
-
-/// That there was no memory, if there wasn't.
-fn kept(is_kept: bool) -> Result<(), FileFault> {
-    if is_kept {
-        Ok(())
-    } else {
-        Err(FileFault::Memory)
-    }
 }
 
 /// What the words ask for.
@@ -105,15 +98,21 @@ fn play_of<'a>(
     let Some(own) = plays.own_steps(place) else {
         return Err(FileFault::Memory);
     };
-    let Some(watches) = read_watches(alloc, own) else {
-        return Err(FileFault::Memory);
-    };
+    let watches = read_watches(alloc, own)?;
     Ok(Play {
         steps,
         looks,
         watches,
         memory,
     })
+}
+
+/// Tells why a file, or a play of it, isn't read.
+fn tell_fault<R: Runtime>(rt: &R, file: &str, fault: FileFault) -> io::Result<()> {
+    match fault {
+        FileFault::Memory => rt.eprintln("fault Memory"),
+        FileFault::Line(number) => println!(rt; "{file}:{number}: no line of a play"),
+    }
 }
 
 /// A play of a file, by their names.
@@ -196,9 +195,12 @@ fn play_all<R: Runtime + AllocGlobal + Wait>(
         let Some(name) = plays.play_at(place) else {
             continue;
         };
-        let Ok(play) = play_of(alloc, plays, place, wanted.memory) else {
-            rt.eprintln("fault Memory")?;
-            return Ok((count, wrong.saturating_add(1)));
+        let play = match play_of(alloc, plays, place, wanted.memory) {
+            Ok(play) => play,
+            Err(fault) => {
+                tell_fault(rt, file, fault)?;
+                return Ok((count, wrong.saturating_add(1)));
+            }
         };
         let named = Place { file, play: name };
         let more = wrong_roads(rt, alloc, named, &play, wanted.roads.as_slice())?;
@@ -219,12 +221,8 @@ fn play_file<R: Runtime + AllocGlobal + Wait>(
     let text = fs::read_to_string(rt, name)?;
     let plays = match read_plays(alloc, text.as_str()) {
         Ok(plays) => plays,
-        Err(FileFault::Memory) => {
-            rt.eprintln("fault Memory")?;
-            return Ok(1);
-        }
-        Err(FileFault::Line(number)) => {
-            println!(rt; "{name}:{number}: no line of a play")?;
+        Err(fault) => {
+            tell_fault(rt, name, fault)?;
             return Ok(1);
         }
     };

@@ -151,7 +151,8 @@ fn asked_from<'a>(
     Asked::Advance(workflow.copied(), range.copied(), words)
 }
 
-/// What goes otherwise with an advance that was cut short: it did as one that asked for no more, and one from its new position does the rest.
+/// What goes otherwise with an advance that was cut short: it did as one that asked for no more, and one from its
+/// new position does the rest.
 fn cut_short<'a, V: Venue, R: Wait>(
     rt: &R,
     venue: &mut V,
@@ -188,7 +189,8 @@ fn stopped<'a>(step: Step<'a>, told: Told, differs: Differs) -> Next<'a> {
     })
 }
 
-/// What goes otherwise with a line that was refused out of memory: all stands as before it, and at a second try it is answered as it must be.
+/// What goes otherwise with a line that was refused out of memory: all stands as before it, and at a second try it
+/// is answered as it must be.
 fn again<'a, V: Venue, R: Wait>(
     rt: &R,
     venue: &mut V,

@@ -1,6 +1,7 @@
-//! Files of plays. A file has parts, each with a head `== NAME` or `== NAME, after OTHER` and its lines; the lines of a part that goes on from
-//! another come behind that one's. A play is a part from which no other goes on, with all that comes before it. Below a line stands, with two
-//! spaces before it, how it is to be answered: where nothing stands there, it is to be `ok`.
+//! Files of plays. A file has parts, each with a head `== NAME` or `== NAME, after OTHER` and its lines; the lines
+//! of a part that goes on from another come behind that one's. A play is a part from which no other goes on, with
+//! all that comes before it. Below a line stands, with two spaces before it, how it is to be answered: where
+//! nothing stands there, it is to be `ok`.
 
 use std::alloc::Global;
 
@@ -11,6 +12,15 @@ pub enum FileFault {
     Memory,
     /// The line of this number says nothing here.
     Line(u64),
+}
+
+/// The fault of what found no memory to be kept; none if it was kept.
+pub fn kept(is_kept: bool) -> Result<(), FileFault> {
+    if is_kept {
+        Ok(())
+    } else {
+        Err(FileFault::Memory)
+    }
 }
 
 /// A line, and how it is to be answered.
@@ -91,10 +101,7 @@ impl<'a> Plays<'a> {
             line,
             want: "ok",
         };
-        match self.steps.push(step) {
-            Ok(()) => Ok(()),
-            Err(_) => Err(FileFault::Memory),
-        }
+        kept(self.steps.push(step).is_ok())
     }
 
     /// The answer that the last line wants.
@@ -131,10 +138,7 @@ impl<'a> Plays<'a> {
             first: self.steps.len(),
             is_last: name != LOOKS,
         };
-        match self.parts.push(part) {
-            Ok(()) => Ok(()),
-            Err(_) => Err(FileFault::Memory),
-        }
+        kept(self.parts.push(part).is_ok())
     }
 
     /// How many parts there are.
@@ -178,9 +182,7 @@ impl<'a> Plays<'a> {
             let Some(place) = at else {
                 break;
             };
-            if places.push(place).is_err() {
-                return Err(FileFault::Memory);
-            }
+            kept(places.push(place).is_ok())?;
             at = match self.parts.get(place) {
                 Some(part) => part.after,
                 None => None,
@@ -205,8 +207,8 @@ impl<'a> Plays<'a> {
 /// Adds steps, without those that say who watches.
 fn add_steps<'a>(steps: &mut Vec<Step<'a>>, more: &[Step<'a>]) -> Result<(), FileFault> {
     for step in more {
-        if !step.line.starts_with("watch ") && steps.push(*step).is_err() {
-            return Err(FileFault::Memory);
+        if !step.line.starts_with("watch ") {
+            kept(steps.push(*step).is_ok())?;
         }
     }
     Ok(())

@@ -1,11 +1,11 @@
 //! Who watches in a play: `watch K` is a watcher of the primary of a keyspace, which tells each change, and
-//! `watch K refuses deny T N` one that refuses the change of number N, from 0, among those that deny this table, or all of them with `always` in
-//! the place of the number; with `allow`, among those that allow it. The routers' watcher comes last. Where a play says nothing of watchers,
-//! those of `commerce` and `customer` are there.
+//! `watch K refuses deny T N` one that refuses the change of number N, from 0, among those that deny this table, or
+//! all of them with `always` in the place of the number; with `allow`, among those that allow it. The routers'
+//! watcher comes last. Where a play says nothing of watchers, those of `commerce` and `customer` are there.
 ghost use Rattle.std.specs.Prelude.{◌≡◌, IfOk};
 ghost use Rattle.mt_watch.specs.Notices.{notice_of};
 
-use crate::plays::Step;
+use crate::plays::{FileFault, Step, kept};
 use mt_model::Entry;
 use mt_names::{KeyspaceName, TableName};
 use mt_watch::{Change, Notice, Scope, WatchFault, tell};
@@ -130,50 +130,45 @@ fn read_watch(words: &str) -> Option<Watch> {
 /// Those that watch where nothing is said of it.
 static BOTH: [&str; 2] = ["commerce", "customer"];
 
-/// Adds a watcher that tells each change; whether there was memory, and its keyspace has a name.
-fn add(watches: &mut Vec<Watch>, words: &str) -> bool {
+/// Adds the watcher that the words behind `watch` say, of the line of this number.
+fn add(watches: &mut Vec<Watch>, number: u64, words: &str) -> Result<(), FileFault> {
     match read_watch(words) {
-        Some(watch) => watches.push(watch).is_ok(),
-        None => false,
+        Some(watch) => kept(watches.push(watch).is_ok()),
+        None => Err(FileFault::Line(number)),
     }
 }
 
-/// Adds those that some steps say; none of them otherwise.
-fn add_said(watches: &mut Vec<Watch>, steps: &[Step<'_>]) -> bool {
+/// Adds those that some steps say.
+fn add_said(watches: &mut Vec<Watch>, steps: &[Step<'_>]) -> Result<(), FileFault> {
     for step in steps {
         if let Some(words) = step.line.strip_prefix("watch ") {
-            if !add(watches, words) {
-                return false;
-            }
+            add(watches, step.number, words)?;
         }
     }
-    true
+    Ok(())
 }
 
-/// Adds the two.
-fn add_both(watches: &mut Vec<Watch>) -> bool {
+/// Adds the two, which no line says.
+fn add_both(watches: &mut Vec<Watch>) -> Result<(), FileFault> {
     for keyspace in &BOTH {
-        if !add(watches, keyspace) {
-            return false;
-        }
+        add(watches, 0, keyspace)?;
     }
-    true
+    Ok(())
 }
 
-/// Who watches in a play whose last part has these steps, and the routers' watcher behind them; none if a line says something else, or memory is out.
-pub fn read_watches(alloc: Global, steps: &[Step<'_>]) -> Option<Vec<Watch>> {
+/// Who watches in a play whose last part has these steps, and the routers' watcher behind them.
+pub fn read_watches(alloc: Global, steps: &[Step<'_>]) -> Result<Vec<Watch>, FileFault> {
     let mut watches = Vec::new(alloc);
-    let is_said = add_said(&mut watches, steps);
-    let are_there = is_said && (!watches.is_empty() || add_both(&mut watches));
+    add_said(&mut watches, steps)?;
+    if watches.is_empty() {
+        add_both(&mut watches)?;
+    }
     let routes = Watch {
         scope: Scope::Routes,
         mark: Mark::nothing(),
     };
-    if are_there && watches.push(routes).is_ok() {
-        return Some(watches);
-    }
-    drop(watches);
-    None
+    kept(watches.push(routes).is_ok())?;
+    Ok(watches)
 }
 
 /// A watcher: it is a macro, since a function that makes a callback and hands it out isn't proved to answer as it says.
