@@ -78,7 +78,12 @@ fn write<R: Wait, D: DeskName, W: Asks + Drop>(
     sender: &Sender<Message>,
 ) -> Option<Wrote<D>> {
     let lines = inserts(alloc)?;
-    let (pass, router) = (desk.pass(rt, 2).ok()?, desk.router(rt).ok()?);
+    let Ok(router) = desk.router(rt) else {
+        return None;
+    };
+    let Ok(pass) = desk.pass(rt, 2) else {
+        return None;
+    };
     match query_worker(rt, &NoGate, desk, router, pass, 0, &lines, sender) {
         (pass, ROWS) => Some(Wrote { pass }),
         _ => None,
