@@ -29,7 +29,7 @@ inserts rows = map insert_of (range_with_len 0 rows)
 abbrev pub IsOfClient : List Call → Type 0
 IsOfClient calls = Exists (λ known. Queries known (inserts 32) calls 32)
 
--- a worker advances the streams of both shards
+-- all that a worker asks for are advances of the streams of both shards in turn, if it asks for any
 abbrev pub IsOfFeeder : List Call → Type 0
 IsOfFeeder calls = Exists (λ taken. IsAdvancing second Forward 2 100 200 calls taken)
 
@@ -37,7 +37,7 @@ IsOfFeeder calls = Exists (λ taken. IsAdvancing second Forward 2 100 200 calls 
 abbrev pub IsOfController : List Call → Type 0
 IsOfController calls = ∥ Controls second (record { primary = true; replica = true; rdonly = true }) false 256 calls (Ok Done) ∥₁
 
--- the calls of who created the move and of these three have one history
+-- the calls of who created the move, whatever they are, and of these three have one history
 abbrev pub AreOne : (HaveOne : List (ℕ × List Call) → Type 0) → Type 0
 AreOne HaveOne =
     ∥ ((created asked fed switched : List Call) × IsOfClient asked × IsOfFeeder fed × IsOfController switched
