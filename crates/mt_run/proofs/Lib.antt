@@ -1,5 +1,6 @@
 pub mod AskLemmas
 pub mod CanonLemmas
+pub mod LineRunLemmas
 pub mod NameLemmas
 pub mod RowLemmas
 pub mod RunLemmas

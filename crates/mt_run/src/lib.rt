@@ -6,6 +6,7 @@ mod asking;
 mod cached;
 mod canon;
 mod command;
+mod line_run;
 mod name_text;
 mod names;
 mod rows;
@@ -14,6 +15,7 @@ mod watching;
 
 pub use canon::{canon_dump, canon_rules};
 pub use command::{Status, perform};
+pub use line_run::LineRun;
 pub use mt_choice::{Choice, Wrong};
 pub use mt_script::ScriptFault;
 pub use script::run_script;

@@ -1,5 +1,5 @@
 //! Running a script: a line is read, asked of the site, and its answer written, one after the other.
-ghost use Rattle.std.specs.Prelude.{◌≡◌, ℕ, ◌+◌, ◌≤◌, List, IfSome, length, string_bytes};
+ghost use Rattle.std.specs.Prelude.{◌≡◌, ℕ, ◌+◌, ◌≤◌, List, IfSome, OnErr, length, string_bytes};
 ghost use Rattle.mt_model.specs.declared.entries.Scope.{Scope};
 ghost use Rattle.mt_plain.specs.Output.{says, told};
 ghost use Rattle.mt_plain.specs.Plain.{Plain};
@@ -39,7 +39,7 @@ fn put_made<W: Write>(
 }
 
 /// Answers a line of a script, where a line of output has room, and adds the answer to what waits to be written.
-fn run_line<W: Write, A: Asks>(
+pub(crate) fn run_line<W: Write, A: Asks>(
     cached: &mut CachedSite<A>,
     waiting: &mut Waiting,
     writer: &mut W,
@@ -49,6 +49,7 @@ fn run_line<W: Write, A: Asks>(
     ensures watchers { cached.new.site.watchers ≡ cached.old.site.watchers }
     ensures runs { (p : Plain) → CoreStands p (A.scopes cached.old.site.watchers) cached.old.site.core
         → RunsLine (A.scopes cached.old.site.watchers) p line.now cached.new.site.core (W.contents writer.old) (W.contents writer.new) waiting.old.items waiting.new.items result }
+    ensures unchanged { OnErr result (cached.new ≡ cached.old) }
 {
     let named = match read(line) {
         Line::Silent => Ok(()),

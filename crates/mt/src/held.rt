@@ -1,0 +1,53 @@
+//! A box as its pointer alone, whose type C may see.
+ghost use Rattle.std.specs.Prelude.{◌≡◌, Bool, true, false};
+
+use crate::loose::Loose;
+use crate::session::Session;
+use std::alloc::Global;
+use std::marker::Model;
+
+/// The pointer of a handle: it owns a session, or nothing. C sees a pointer alone.
+#[repr(C)]
+#[derive(Drop)]
+pub struct Held {
+    at: *mut u8,
+    ghost full: { Bool },
+}
+
+impl Model for Held {
+    ghost use Rattle.mt.specs.Held.{held};
+    ghost use Rattle.mt.specs.contracts.session.Session.{the_row};
+
+    ghost also_owns = { λ h. held the_row h.at h.full };
+}
+
+impl Held {
+    /// A session's pointer.
+    pub(crate) fn of(session: Loose<Session, Global>) -> Held
+        ensures { result.full ≡ true }
+    {
+        let Loose { at, alloc: _ } = session;
+        Held { at: at as *mut u8 }
+    }
+
+    /// That of no session.
+    pub fn none() -> Held
+        ensures { result.full ≡ false }
+    {
+        Held {
+            at: std::ptr::null_mut(),
+        }
+    }
+
+    /// The session.
+    pub(crate) fn into_loose(self, alloc: Global) -> Loose<Session, Global>
+        requires { self.full ≡ true }
+        ensures { result.alloc ≡ alloc }
+    {
+        let Held { at } = self;
+        Loose {
+            at: at as *mut Session,
+            alloc,
+        }
+    }
+}
