@@ -8,7 +8,7 @@ import re
 import unproved
 
 CRATE, MODULE = "mt", "mt::exports"
-EXPORTS = ["mt_open", "mt_command", "mt_close", "mt_run"]
+EXPORTS = ["mt_version", "mt_open", "mt_command", "mt_close", "mt_run"]
 
 
 def as_library(lines):

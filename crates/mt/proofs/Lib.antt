@@ -1,1 +1,3 @@
+pub mod ExportLemmas
+pub mod NameLemmas
 pub mod Values

@@ -74,3 +74,15 @@ held_told p vs is = is.1.0 ∙ ap (λ (ws : List Val). vstruct (of_list (ws ++ [
 
 pub held_made : {M : Type 1} {𝓤 : Ura M} (𝓛 : Logic 𝓤) (p : Ptr) → ent 𝓤 (emp 𝓤) (sem 𝓛 (HeldData.own_val (p, tt) (held_of p ∷ [])))
 held_made 𝓛 p = makes_shadow 𝓛 (HeldData.own_val (p, tt) (held_of p ∷ [])) (λ vss. (tt, (tt, tt))) ((ptr_val p ∷ [], tt), (refl, (refl, tt)))
+
+-- a struct without fields that are there at run time
+abbrev pub none : Val
+none = vstruct vnil
+
+abbrev fieldless : RattleType
+fieldless = Struct (record { name = []; args = []; types = []; fields = [] })
+
+pub none_made : {M : Type 1} {𝓤 : Ura M} {𝓛 : Logic 𝓤} {K : Type 0} {Γ : List (Item 𝓤)} {G : Goal 𝓤 𝓛.H} → K → Step K 𝓛 (‵ (fieldless.own_val tt (none ∷ [])) ∷ Γ) G Γ G
+none_made t = step (λ s.
+    nothing t $ feq_i t (List Val) (none ∷ []) (none ∷ []) refl $ fjoin t $
+    fpack t (Valss []) (within (record { name = []; args = []; types = []; fields = [] }) tt (none ∷ [])) tt $ s)

@@ -1,2 +1,5 @@
+pub mod Exports
 pub mod Held
-pub mod Puts
+pub mod Names
+pub mod Places
+pub mod Sessions

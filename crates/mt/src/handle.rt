@@ -1,5 +1,6 @@
 //! A session as C holds it.
-ghost use Rattle.std.specs.Prelude.{◌≡◌};
+ghost use Rattle.std.specs.Prelude.{◌≡◌, IfNone, IfSome, true, false};
+ghost use Rattle.mt.specs.Sessions.{HasSaid};
 
 use crate::held::Held;
 use crate::loose::Loose;
@@ -17,7 +18,9 @@ pub struct Handle {
 
 impl Handle {
     /// That of no session.
-    pub fn closed() -> Handle {
+    pub fn closed() -> Handle
+        ensures { result.opened ≡ false }
+    {
         Handle {
             held: Held::none(),
             opened: false,
@@ -25,7 +28,10 @@ impl Handle {
     }
 
     /// That of a session.
-    pub(crate) fn of(session: Box<Session>) -> Handle {
+    pub(crate) fn of(session: Box<Session>) -> Handle
+        ensures opened { result.opened ≡ true }
+        ensures said { HasSaid result.held.scopes result.held.lines result.held.out session.value }
+    {
         Handle {
             held: Held::of(Loose::of(session)),
             opened: true,
@@ -33,7 +39,11 @@ impl Handle {
     }
 
     /// The session, if one is open.
-    pub(crate) fn into_session(self, alloc: Global) -> Option<Box<Session>> {
+    pub(crate) fn into_session(self, alloc: Global) -> Option<Box<Session>>
+        ensures opened { IfSome result (λ session. self.opened ≡ true) }
+        ensures said { IfSome result (λ session. HasSaid self.held.scopes self.held.lines self.held.out session.value) }
+        ensures closed { IfNone result (self.opened ≡ false) }
+    {
         let Handle { held, opened } = self;
         if opened {
             Some(held.into_loose(alloc).into_box())

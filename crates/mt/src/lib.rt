@@ -7,11 +7,14 @@ mod handle;
 mod held;
 mod loose;
 mod names;
+mod place;
+mod said;
 mod session;
 mod status;
-mod tellers;
 #[cfg(test)]
 mod tests;
+mod version;
 
 pub use handle::Handle;
 pub use status::Status;
+pub use version::VERSION;

@@ -1,45 +1,42 @@
 //! A session: a run whose lines C hands in one at a time.
-ghost use Rattle.std.specs.Prelude.{◌+◌, ◌++◌, ◌<◌, ◌^◌, length};
-ghost use Rattle.mt.specs.Puts.{Puts};
+ghost use Rattle.std.specs.Prelude.{IfErr, IfOk};
+ghost use Rattle.mt_run.specs.LineRuns.{SoFar};
 
 use crate::names::watched;
+use crate::place::put;
+use crate::said::{Said, Told};
 use crate::status::Status;
-use crate::tellers::Tellers;
-use mt_script::{LONGEST_LINE, Waiting};
-use mt_run::LineRun;
+use mt_run::{Answered, LineRun, Tellers};
+use mt_script::{LONGEST_LINE, LineText};
 use std::alloc::Global;
 
-/// A session.
+/// A session: what it asked for so far wrote what a script of its lines writes, with the primaries of some keyspaces watched.
 #[derive(Drop)]
 pub struct Session {
     run: LineRun<Tellers>,
-}
-
-/// Puts two texts into a place, one behind the other, and says how many bytes they have. If there is no room for both, none is put.
-pub fn put(first: &[u8], second: &[u8], place: &mut [u8]) -> (Status, usize)
-    requires { length first.now + length second.now < 2 ^ 64 }
-    ensures { Puts (first.now ++ second.now) place.old place.new result }
-{
-    let length = first.len().saturating_add(second.len());
-    if place.len() < length {
-        return (Status::Room, length);
-    }
-    let (whole, _) = place.split_at_mut(length);
-    let (left, right) = whole.split_at_mut(first.len());
-    left.copy_from_slice(first);
-    right.copy_from_slice(second);
-    (Status::Done, length)
+    waiting: LineText,
+    said: Said,
+    ghost so_far: { ∥ SoFar run.cached.site.watchers.scopes.items said.lines said.out run.cached.site.core ∥₁ },
 }
 
 impl Session {
-    /// Opens a session. `Names` or `Memory` if there is none.
-    pub fn open(alloc: Global, keyspaces: &[u8]) -> Result<Box<Session>, Status> {
-        let Ok(keyspaces) = watched(keyspaces) else {
+    ghost use Rattle.mt.specs.Sessions.{Begins, IsNotOpened, Tells};
+
+    /// Opens a session in which the primaries of the keyspaces that a text names are watched. `Names` or `Memory` if there is none.
+    pub fn open(alloc: Global, keyspaces: &[u8]) -> Result<Box<Session>, Status>
+        ensures opened { IfOk result (λ session. Begins keyspaces.now session.value) }
+        ensures refused { IfErr result (λ status. IsNotOpened keyspaces.now status) }
+    {
+        let Some(keyspaces) = watched(keyspaces) else {
             return Err(Status::Names);
         };
-        let tellers = Tellers::of(alloc, &keyspaces)?;
+        let Ok(tellers) = Tellers::of(alloc, &keyspaces) else {
+            return Err(Status::Memory);
+        };
         let session = Session {
             run: LineRun::open(alloc, tellers),
+            waiting: LineText::new(),
+            said: Said::new(),
         };
         match Box::new(alloc, session) {
             Ok(session) => Ok(session),
@@ -47,16 +44,26 @@ impl Session {
         }
     }
 
-    /// Answers a line into a place, which has room for the longest answer but for documents, and says how many bytes the answer has.
-    pub fn answer(&mut self, alloc: Global, line: &[u8], place: &mut [u8]) -> (Status, usize) {
+    /// Answers a line into a place, and says how many bytes the answer has. If the place has less room than the longest answer but
+    /// for documents, nothing is done; if it has too little for a document, or there is no memory for one, the session is as it was.
+    pub fn answer(&mut self, line: &[u8], place: &mut [u8]) -> (Status, usize)
+        ensures { Tells self.old self.new line.now place.old place.new result }
+    {
         if place.len() < LONGEST_LINE {
             return (Status::Room, 0);
         }
-        let mut waiting = Waiting::new();
-        let mut document = Vec::new(alloc);
-        match self.run.answer(&mut waiting, &mut document, line) {
-            Ok(()) => put(&document, &waiting, place),
-            Err(_) => (Status::Memory, 0),
+        self.waiting.clear();
+        let (status, count) = match self.run.answer(&mut self.waiting, line) {
+            Answered::Line => put(&self.waiting, b"", place),
+            Answered::Document(text) => put(text.as_bytes(), b"\n", place),
+            Answered::NoMemory => (Status::Memory, 0),
+        };
+        if status == Status::Done {
+            self.said = self.said.then(&Told {
+                line,
+                text: &place[..count],
+            });
         }
+        (status, count)
     }
 }

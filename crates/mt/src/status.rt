@@ -1,4 +1,6 @@
 //! How a call ends.
+ghost use Rattle.std.specs.Prelude.{◌≡◌};
+ghost use Rattle.mt.specs.Exports.{number_of};
 
 /// How a call ends, as `embed/mt.h` numbers it.
 #[derive(Clone, Copy, Debug, Eq, PartialEq)]
@@ -21,7 +23,9 @@ pub enum Status {
 
 impl Status {
     /// The number that C sees.
-    pub fn number(self) -> i32 {
+    pub fn number(self) -> i32
+        ensures { result ≡ number_of self }
+    {
         match self {
             Status::Done => 0,
             Status::Memory => 1,

@@ -1,6 +1,6 @@
 //! Tests of the exports.
 
-use crate::exports::{mt_close, mt_command, mt_open, mt_run};
+use crate::exports::{mt_close, mt_command, mt_open, mt_run, mt_version};
 use crate::handle::Handle;
 
 #[test]
@@ -78,4 +78,9 @@ fn a_script_runs_as_a_whole(rt: HostRuntime) {
     );
     assert!(rt; written == 6);
     assert!(rt; mt_run(rt.alloc(), b"no.name", script, &mut output, &mut written) == 5);
+}
+
+#[test]
+fn the_version_is_told(rt: HostRuntime) {
+    assert!(rt; mt_version() == 1_000_000);
 }

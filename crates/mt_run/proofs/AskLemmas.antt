@@ -1,7 +1,6 @@
 -- What a line asks for, once it is read, and once its names are.
 use Rattle.std.proofs.Common.{◌≡◌, ℕ, Bool, false, true, List, [], ◌++◌, Result, Ok, Err, refl, sym, ap, append_assoc, subst, ◌∙◌}
-use Rattle.std.specs.Prelude.{IfOk, IfSome, unwrap_or}
-use Rattle.std.specs.Result.{result_ok}
+use Rattle.std.specs.Prelude.{unwrap_or}
 use Rattle.arrayvec.specs.ArrayVec.{ArrayVec}
 use Rattle.mt_model.specs.declared.entries.Scope.{Scope}
 use Rattle.mt_names.specs.declared.fault.NameFault.{NameFault}
@@ -20,7 +19,6 @@ use Rattle.mt_plain.specs.Events as plain
 use Rattle.mt_plain.specs.Output.{Told, line_feed, refused_text, says, told_line}
 use Rattle.mt_plain.specs.Plain.{Plain}
 use Rattle.mt_plain.specs.Script.{Command, Request, advance_in, change_at, command, create, drive, event, get_at, read_line, request_of, type_of}
-use Rattle.mt_script.specs.Bytes.{Known}
 use Rattle.mt_script.specs.declared.lines.LineRefusal.{LineRefusal}
 use Rattle.mt_script.specs.declared.lines.LineRefusal.TheVariants as refusal
 use Rattle.mt_script.specs.declared.lines.RowAsked.{RowAsked}
@@ -30,6 +28,7 @@ use Rattle.mt_script.specs.declared.lines.WorkflowAsked.TheVariants as of_workfl
 use Rattle.mt_script.specs.Lines.{asked_from, line_refusal_text, op_from, refusal_from, row_from, table_read}
 use Rattle.mt_stands.specs.Ways.{CoreStands, CoreState}
 use Rattle.mt_workflow.specs.Workflows.{stream_name}
+use Rattle.mt_run.specs.declared.line_run.Answered.TheVariants as how
 use Rattle.mt_run.specs.Runs.{IsAnswered, IsNamed, RunsLine}
 use Rattle.mt_run.proofs.RunLemmas.{document_tells_made, fault_waits, line_waits, named_waits}
 
@@ -79,28 +78,23 @@ refused_says : (p : Plain) (r : LineRefusal) → told_line p (refusal_from r) �
 refused_says p refusal.BadLine = refl
 refused_says p refusal.TooLong = refl
 
-pub refused_waits : (scopes : List Scope) (p : Plain) (line : List ℕ) (core : CoreState) (held : Known) (waiting waiting' : List ℕ) (r : LineRefusal) → refusal_from r ≡ read_line line → CoreStands p scopes core
-    → waiting' ≡ waiting ++ refused_text (line_refusal_text r) ++ line_feed → RunsLine scopes p line core held held waiting waiting' (Ok tt)
-refused_waits scopes p line core held waiting waiting' r is stands added =
+pub refused_waits : (scopes : List Scope) (p : Plain) (line : List ℕ) (core : CoreState) (waiting waiting' : List ℕ) (r : LineRefusal) → refusal_from r ≡ read_line line → CoreStands p scopes core
+    → waiting' ≡ waiting ++ refused_text (line_refusal_text r) ++ line_feed → RunsLine scopes p line core waiting waiting' how.Line
+refused_waits scopes p line core waiting waiting' r is stands added =
     let text = refused_text (line_refusal_text r) in
-    line_waits scopes p line core held waiting waiting' (text ++ line_feed, document_tells_made scopes p line core text stands (sym (ap (told_line p) is) ∙ refused_says p r), added ∙ append_assoc waiting text line_feed)
-
--- what is said of a document that was made
-pub made_says : {A E : Type 0} (r : Result A E) (bytes : A → List ℕ) (due : List ℕ) (t : Told) → t ≡ says due → IfOk r (λ text. bytes text ≡ due) → IfSome (result_ok r) (λ text. t ≡ says (bytes text))
-made_says (Ok text) bytes due t is same = is ∙ ap says (sym same)
-made_says (Err fault) bytes due t is same = tt
+    line_waits scopes p line core waiting waiting' (text ++ line_feed, document_tells_made scopes p line core text stands (sym (ap (told_line p) is) ∙ refused_says p r), added ∙ append_assoc waiting text line_feed)
 
 -- a line whose command's names are read is answered, and one with a fault in a name is as soon as the fault is told
-abbrev pub IsLineNamed : List Scope → Plain → (line : List ℕ) → CoreState → Known → (waiting waiting' : List ℕ) → Result Unit NameFault → Type 0
-IsLineNamed scopes p line core held waiting waiting' (Ok done) = RunsLine scopes p line core held held waiting waiting' (Ok tt)
-IsLineNamed scopes p line core held waiting waiting' (Err fault) =
-    (more : List ℕ) → more ≡ waiting' ++ refused_text (fault_text fault) ++ line_feed → RunsLine scopes p line core held held waiting more (Ok tt)
+abbrev pub IsLineNamed : List Scope → Plain → (line : List ℕ) → CoreState → (waiting waiting' : List ℕ) → Result Unit NameFault → Type 0
+IsLineNamed scopes p line core waiting waiting' (Ok done) = RunsLine scopes p line core waiting waiting' how.Line
+IsLineNamed scopes p line core waiting waiting' (Err fault) =
+    (more : List ℕ) → more ≡ waiting' ++ refused_text (fault_text fault) ++ line_feed → RunsLine scopes p line core waiting more how.Line
 
-pub line_named : (scopes : List Scope) (p : Plain) (line : List ℕ) (old core : CoreState) (held : Known) (waiting waiting' : List ℕ) (c : Command) (named : Result Unit NameFault) → command c ≡ read_line line
-    → CoreStands p scopes old → IsNamed scopes old c waiting waiting' named core → IsLineNamed scopes p line core held waiting waiting' named
-line_named scopes p line old core held waiting waiting' c (Ok done) is stands named = named_waits scopes p line core held waiting waiting' c (sym is) old named stands
-line_named scopes p line old core held waiting waiting' c (Err fault) is stands (wrong, same, none) = λ more added.
-    fault_waits scopes p line core held waiting more c (sym is) fault wrong (subst (CoreStands p scopes) (sym same) stands) (added ∙ ap (λ (w : List ℕ). w ++ refused_text (fault_text fault) ++ line_feed) none)
+pub line_named : (scopes : List Scope) (p : Plain) (line : List ℕ) (old core : CoreState) (waiting waiting' : List ℕ) (c : Command) (named : Result Unit NameFault) → command c ≡ read_line line
+    → CoreStands p scopes old → IsNamed scopes old c waiting waiting' named core → IsLineNamed scopes p line core waiting waiting' named
+line_named scopes p line old core waiting waiting' c (Ok done) is stands named = named_waits scopes p line core waiting waiting' c (sym is) old named stands
+line_named scopes p line old core waiting waiting' c (Err fault) is stands (wrong, same, none) = λ more added.
+    fault_waits scopes p line core waiting more c (sym is) fault wrong (subst (CoreStands p scopes) (sym same) stands) (added ∙ ap (λ (w : List ℕ). w ++ refused_text (fault_text fault) ++ line_feed) none)
 
 -- ---- a workflow that is made
 

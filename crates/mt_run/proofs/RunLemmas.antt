@@ -1,12 +1,11 @@
--- Whatever completes the output of the lines that are left completes that of the script.
+-- What a line tells is run, and becomes its text.
 use native.Mathlib.Omega.{arith}
-use Rattle.std.proofs.Common.{◌≡◌, ℕ, zero, suc, Bool, true, List, [], ◌∷◌, ◌++◌, Option, Some, None, Result, Ok, Err, refl, sym, ap, ◌∙◌, subst, append-nil, append_assoc, inl, inr}
-use Rattle.std.proofs.KnownBytes.{Appends-nil, Appends-trans, Consumes-nil}
-use Rattle.std.specs.Io.KnownBytes.{Appends}
+use Rattle.std.proofs.Common.{◌≡◌, ℕ, zero, suc, Bool, List, [], ◌∷◌, ◌++◌, Option, Some, None, Result, Ok, Err, String, Global, refl, sym, ap, ◌∙◌, subst, append-nil, append_assoc, inl, inr}
+use Rattle.std.proofs.KnownBytes.{Appends-nil, Consumes-nil}
+use Rattle.std.specs.Prelude.{IfOk, string_bytes}
 use Rattle.std.specs.Str.Lines.{lines}
 use Rattle.mt_model.specs.declared.entries.Scope.{Scope}
 use Rattle.mt_model.specs.declared.faults.TopologyFault.{TopologyFault}
-use Rattle.mt_model.specs.Documents.{dump_text, rules_text}
 use Rattle.mt_model.specs.Faults.{topology_fault_text}
 use Rattle.mt_names.specs.declared.fault.NameFault.{NameFault}
 use Rattle.mt_names.specs.declared.keys.RuleTarget.{RuleTarget}
@@ -14,64 +13,90 @@ use Rattle.mt_names.specs.declared.types.TypeSet.{TypeSet}
 use Rattle.mt_names.specs.Faults.{fault_text}
 use Rattle.mt_names.specs.Shards.{KeyRange}
 use Rattle.mt_plain.specs.Events.{Answer, Event, Refusal, StreamName, advance, refused}
-use Rattle.mt_plain.specs.Answers.{Answers}
+use Rattle.mt_plain.specs.Answers.{Answers, Run, after}
 use Rattle.mt_plain.specs.Drive.{Driven, Drives, Driving, EndRule, GoesOn, Heard, event_of, heard, most_turns}
 use Rattle.mt_plain.specs.Drive as turn
 use Rattle.mt_plain.specs.Next.{next}
-use Rattle.mt_plain.specs.Output.{Adds, IsOutputBy, Output, Told, asked_in, asked_there, asks, drives, line_feed, nothing, output_from, refused_text, says, told, told_line, told_request}
+use Rattle.mt_plain.specs.Output.{IsOutputBy, Output, Told, asked_in, asked_there, asks, drives, line_feed, nothing, output_from, refused_text, says, told, told_line, told_request}
 use Rattle.mt_plain.specs.Output as plain
 use Rattle.mt_plain.specs.Plain.{Plain, live_at, opening}
 use Rattle.mt_plain.specs.Refuse.{shard_of_range}
 use Rattle.mt_plain.specs.Script.{Command, Request, command, read_line, request_of}
 use Rattle.mt_plain.specs.Script as script
-use Rattle.mt_plain.specs.Serve.{served}
+use Rattle.mt_laws.specs.Scripts.{HasEnded, IsDrive, WritesOf}
 use Rattle.mt_laws.proofs.OutputLemmas.{output_from-is_written, output_from_memory}
 use Rattle.mt_laws.proofs.ScriptRunLemmas.{script_keeps_the_headline}
 use Rattle.mt_script.specs.declared.fault.ScriptFault.{ScriptFault}
 use Rattle.mt_script.specs.declared.fault.ScriptFault.TheVariants as fault
-use Rattle.mt_script.specs.Bytes.{GoesOut, Known, Reads, Writes}
-use Rattle.mt_script.proofs.GoesLemmas.{cut_before, goes_on, nothing_out}
+use Rattle.mt_script.specs.Bytes.{Known, Reads}
 use Rattle.mt_stands.specs.Ways.{CoreStands, CoreState, CoreSteps}
 use Rattle.mt_run.specs.Rows.{IsThrough}
-use Rattle.mt_run.specs.Runs.{AsksDocument, IsAnswered, IsNamed, IsTold, Runs, RunsLine, RunsLines, Tells, bytes_of, is_document, through_text}
+use Rattle.mt_run.specs.declared.line_run.Answered.{Answered}
+use Rattle.mt_run.specs.declared.line_run.Answered.TheVariants as how
+use Rattle.mt_run.specs.Runs.{IsAnswered, IsNamed, IsTold, OnDocument, Runs, RunsLine, RunsLines, Tells, answered_by, bytes_of, through_text}
 
 -- ---- a line
 
 -- the lines that are left have an output, whatever they are
-has_output : (p : Plain) (lines : List (List ℕ)) → Output Answers read_line p lines (output_from read_line p lines)
+pub has_output : (p : Plain) (lines : List (List ℕ)) → Output Answers read_line p lines (output_from read_line p lines)
 has_output p lines = output_from_memory read_line lines p (output_from read_line p lines) (output_from-is_written read_line lines p)
 
--- where a drive that goes on or ends comes to its end, and how: whatever else holds of that end holds of what was heard
-goes_end : (Ends : EndRule) (turns : ℕ)
-    → ((d : Driving) (p : Plain) → Drives Answers turns Ends d p → (r : Plain) × (ended : Result Driven Refusal) × Ends ended r × ((Ends' : EndRule) → Ends' ended r → Drives Answers turns Ends' d p))
-    → (q : Plain) (h : Heard) → GoesOn (Drives Answers turns Ends) Ends q h
-    → (r : Plain) × (ended : Result Driven Refusal) × Ends ended r × ((Ends' : EndRule) → Ends' ended r → GoesOn (Drives Answers turns Ends') Ends' q h)
-goes_end Ends turns again q (turn.goes_on d) went = again d q went
-goes_end Ends turns again q (turn.ends ended) held = (q, ended, held, λ Ends' then. then)
+-- the events of a drive that comes to its end, and what holds there: whatever else does holds of the drive
+record Drove (Ends : EndRule) (turns : ℕ) (p : Plain) (d : Driving) : Type 1 where
+  events : List Event
+  answers : List Answer
+  ended : Result Driven Refusal
+  run : Run p events answers
+  is : IsDrive p d events answers ended
+  holds : Ends ended (after p events answers)
+  then : (Ends' : EndRule) → Ends' ended (after p events answers) → Drives Answers turns Ends' d p
 
--- where a drive comes to its end, and how: whatever else holds of that end holds of the drive
-drive_end : (Ends : EndRule) (turns : ℕ) (d : Driving) (p : Plain) → Drives Answers turns Ends d p
-    → (r : Plain) × (ended : Result Driven Refusal) × Ends ended r × ((Ends' : EndRule) → Ends' ended r → Drives Answers turns Ends' d p)
-drive_end Ends zero d p drove = absurd drove
-drive_end Ends (suc turns) d p (answer, answers, went) =
-    let q = next p (event_of p d) answer in
-    let end = goes_end Ends turns (drive_end Ends turns) q (heard q d answer) went in
-    (end.0, end.1, end.2, λ Ends' then. (answer, answers, end.3 Ends' then))
+drove : (Ends : EndRule) (turns : ℕ) (p : Plain) (d : Driving) → Drives Answers turns Ends d p → Drove Ends turns p d
+drove Ends zero p d went = absurd went
+drove Ends (suc turns) p d (answer, may, went) = by (drove Ends turns) (heard q d answer) refl went
+  where
+    q : Plain
+    q = next p (event_of p d) answer
 
--- what a line tells adds its text to whatever the rest adds from the next state
-tells_adds : (scopes : List Scope) (q : Plain) (t : Told) (text : Option (List ℕ)) (core : CoreState) → Tells scopes q t text core
-    → (r : Plain) × CoreStands r scopes core × ((Rest : Plain → List ℕ → Type 0) (out : List ℕ) → Rest r out → Adds Answers q t Rest (bytes_of text ++ out))
-tells_adds scopes q nothing text core (none, stands) = (q, stands, λ Rest out rest. rw none rest)
-tells_adds scopes q (says words) text core (some, stands) = (q, stands, λ Rest out rest. (out, ap (λ o. bytes_of o ++ out) some, rest))
-tells_adds scopes q (drives driving) text core drove =
-    let end = drive_end (λ ended r. (text ≡ Some (plain.ended_text ended ++ line_feed)) × CoreStands r scopes core) most_turns driving q drove.drove in (
-      end.0,
-      end.2.1,
-      λ Rest out rest.
-          end.3 (λ ended r. plain.Says r (plain.ended_text ended) Rest (bytes_of text ++ out)) (out, ap (λ o. bytes_of o ++ out) end.2.0, rest),
-    )
-tells_adds scopes q (asks event) text core (answer, answers, some, stands) =
-    (next q event answer, stands, λ Rest out rest. (answer, out, answers, ap (λ o. bytes_of o ++ out) some, rest))
+    by : ((r : Plain) (rest : Driving) → Drives Answers turns Ends rest r → Drove Ends turns r rest) → (h : Heard) → h ≡ heard q d answer
+        → GoesOn (Drives Answers turns Ends) Ends q h → Drove Ends (suc turns) p d
+    by again (turn.goes_on rest) is goes =
+        let was = again q rest goes in
+        record {
+          events = event_of p d ∷ was.events;
+          answers = answer ∷ was.answers;
+          ended = was.ended;
+          run = (may, was.run);
+          is = (refl, may, subst (GoesOn (λ further r. IsDrive r further was.events was.answers was.ended) (HasEnded was.events was.answers was.ended) q) is was.is);
+          holds = was.holds;
+          then = λ Ends' held. (answer, may, subst (GoesOn (Drives Answers turns Ends') Ends' q) is (was.then Ends' held));
+        }
+    by again (turn.ends last) is holds = record {
+      events = event_of p d ∷ [];
+      answers = answer ∷ [];
+      ended = last;
+      run = (may, tt);
+      is = (refl, may, subst (GoesOn (λ further r. IsDrive r further [] [] last) (HasEnded [] [] last) q) is (refl, refl, refl));
+      holds = holds;
+      then = λ Ends' held. (answer, may, subst (GoesOn (Drives Answers turns Ends') Ends' q) is held);
+    }
+
+-- the events of a line, and what the core stands for behind them
+pub record WasTold (scopes : List Scope) (p : Plain) (t : Told) (text : List ℕ) (core : CoreState) : Type 0 where
+  pub events : List Event
+  pub answers : List Answer
+  pub writes : WritesOf p t events answers text
+  pub run : Run p events answers
+  pub stands : CoreStands (after p events answers) scopes core
+
+pub tells_was : (scopes : List Scope) (p : Plain) (t : Told) (text : Option (List ℕ)) (core : CoreState) → Tells scopes p t text core → WasTold scopes p t (bytes_of text) core
+tells_was scopes p nothing text core (none, stands) = record { events = []; answers = []; writes = (refl, refl, ap bytes_of none); run = tt; stands = stands }
+tells_was scopes p (says words) text core (some, stands) = record { events = []; answers = []; writes = (refl, refl, ap bytes_of some); run = tt; stands = stands }
+tells_was scopes p (asks event) text core (answer, answers, some, stands) =
+    record { events = event ∷ []; answers = answer ∷ []; writes = (answer, answers, refl, refl, ap bytes_of some); run = (answers, tt); stands = stands }
+tells_was scopes p (drives driving) text core tells =
+    let was = drove (λ ended q. (text ≡ Some (plain.ended_text ended ++ line_feed)) × CoreStands q scopes core) most_turns p driving tells.drove in
+    record { events = was.events; answers = was.answers; writes = (was.ended, was.is, ap bytes_of was.holds.0); run = was.run; stands = was.holds.1 }
 
 -- the answer to an event, told
 asks_told : (scopes : List Scope) (old new : CoreState) (event : Event) (answer : Answer) (text : List ℕ) → text ≡ plain.answer_text answer ++ line_feed → CoreSteps scopes old event answer new
@@ -144,14 +169,14 @@ pub driven : (scopes : List Scope) (old new : CoreState) (workflow : List ℕ) (
     → waiting' ≡ waiting ++ plain.ended_text ended ++ line_feed
     → ((p : Plain) → CoreStands p scopes old → Drives Answers most_turns (λ end q. (end ≡ ended) × CoreStands q scopes new) (turn.begins workflow types back) p)
     → IsAnswered scopes old (script.drive workflow types back) waiting waiting' new
-driven scopes old new workflow types back ended waiting waiting' added drove = λ p stands. (plain.ended_text ended ++ line_feed, told_of p stands, added ∙ append_assoc waiting (plain.ended_text ended) line_feed)
+driven scopes old new workflow types back ended waiting waiting' added went = λ p stands. (plain.ended_text ended ++ line_feed, told_of p stands, added ∙ append_assoc waiting (plain.ended_text ended) line_feed)
   where
     told_of : (p : Plain) → CoreStands p scopes old → Tells scopes p (drives (turn.begins workflow types back)) (Some (plain.ended_text ended ++ line_feed)) new
     told_of p stands =
-        let end = drive_end (λ e q. (e ≡ ended) × CoreStands q scopes new) most_turns (turn.begins workflow types back) p (drove p stands) in
+        let was = drove (λ e q. (e ≡ ended) × CoreStands q scopes new) most_turns p (turn.begins workflow types back) (went p stands) in
         record {
-          drove = end.3 (λ e q. (Some (plain.ended_text ended ++ line_feed) ≡ Some (plain.ended_text e ++ line_feed)) × CoreStands q scopes new)
-              (ap Some (ap (λ e. plain.ended_text e ++ line_feed) (sym end.2.0)), end.2.1);
+          drove = was.then (λ e q. (Some (plain.ended_text ended ++ line_feed) ≡ Some (plain.ended_text e ++ line_feed)) × CoreStands q scopes new)
+              (ap Some (ap (λ e. plain.ended_text e ++ line_feed) (sym was.holds.0)), was.holds.1);
         }
 
 -- ---- a document
@@ -160,35 +185,6 @@ driven scopes old new workflow types back ended waiting waiting' added drove = �
 command_told : (p : Plain) (line : List ℕ) (c : Command) → read_line line ≡ command c → told_request p (request_of c) ≡ told read_line p line
 command_told p line c is = ap (told_line p) (sym is)
 
--- a command for a document tells a text
-document_says : (p : Plain) (c : Command) → is_document c ≡ true → (words : List ℕ) × (told_request p (request_of c) ≡ says words)
-document_says p script.rules is = (rules_text (served p).rules, refl)
-document_says p script.dump is = (dump_text (served p), refl)
-document_says p (script.keyspace k s) is = absurd cc
-document_says p (script.table k t) is = absurd cc
-document_says p (script.rule k t) is = absurd cc
-document_says p (script.change n o) is = absurd cc
-document_says p (script.get n k) is = absurd cc
-document_says p (script.change_at n o) is = absurd cc
-document_says p (script.get_at n k) is = absurd cc
-document_says p (script.create w s t l) is = absurd cc
-document_says p (script.advance w s r a m) is = absurd cc
-document_says p (script.begin_switch w t) is = absurd cc
-document_says p (script.begin_reverse w t) is = absurd cc
-document_says p (script.step w a) is = absurd cc
-document_says p (script.undo w a) is = absurd cc
-document_says p (script.switch w t) is = absurd cc
-document_says p (script.reverse w t) is = absurd cc
-document_says p (script.cancel w) is = absurd cc
-document_says p (script.complete w) is = absurd cc
-document_says p (script.show w) is = absurd cc
-
--- what a line tells that asks for a document
-document_tells : (scopes : List Scope) (p : Plain) (line : List ℕ) (core : CoreState) → CoreStands p scopes core → AsksDocument line → (text : List ℕ) × Tells scopes p (told read_line p line) (Some text) core
-document_tells scopes p line core stands (c, is, same) =
-    let words = document_says p c is in
-    (words.0 ++ line_feed, subst (λ t. Tells scopes p t (Some (words.0 ++ line_feed)) core) (sym words.1 ∙ command_told p line c same) (refl, stands))
-
 -- a document that is made is what such a line tells
 pub document_tells_made : (scopes : List Scope) (p : Plain) (line : List ℕ) (core : CoreState) (text : List ℕ) → CoreStands p scopes core → told read_line p line ≡ says text
     → Tells scopes p (told read_line p line) (Some (text ++ line_feed)) core
@@ -196,150 +192,39 @@ document_tells_made scopes p line core text stands is = subst (λ t. Tells scope
 
 -- ---- a command
 
--- a line's text stands behind what waited, and nothing goes out
-module _ (scopes : List Scope) (p : Plain) (line : List ℕ) (core : CoreState) (held : Known) (waiting waiting' : List ℕ) where
-  pub line_waits : IsTold scopes p (told read_line p line) waiting waiting' core → RunsLine scopes p line core held held waiting waiting' (Ok tt)
-  line_waits (text, tells, added) = (Some text, tells, subst (λ (rest : List ℕ). GoesOut held held (waiting ++ text) rest) (sym added) (nothing_out held (waiting ++ text)))
+-- a line's text stands behind what waited
+module _ (scopes : List Scope) (p : Plain) (line : List ℕ) (core : CoreState) (waiting waiting' : List ℕ) where
+  pub line_waits : IsTold scopes p (told read_line p line) waiting waiting' core → RunsLine scopes p line core waiting waiting' how.Line
+  line_waits (text, tells, added) = (Some text, tells, added)
 
-  pub line_silent : told read_line p line ≡ nothing → CoreStands p scopes core → waiting' ≡ waiting → RunsLine scopes p line core held held waiting waiting' (Ok tt)
-  line_silent is stands same =
-      (None, subst (λ t. Tells scopes p t None core) (sym is) (refl, stands), subst (λ (rest : List ℕ). GoesOut held held (waiting ++ []) rest) (append-nil waiting ∙ sym same) (nothing_out held (waiting ++ [])))
+  pub line_silent : told read_line p line ≡ nothing → CoreStands p scopes core → waiting' ≡ waiting → RunsLine scopes p line core waiting waiting' how.Line
+  line_silent is stands same = (None, subst (λ t. Tells scopes p t None core) (sym is) (refl, stands), same ∙ sym (append-nil waiting))
 
   -- a command's text, and that of a fault of a name in it
   module _ (c : Command) (is : read_line line ≡ command c) where
-    pub command_waits : IsTold scopes p (told_request p (request_of c)) waiting waiting' core → RunsLine scopes p line core held held waiting waiting' (Ok tt)
+    pub command_waits : IsTold scopes p (told_request p (request_of c)) waiting waiting' core → RunsLine scopes p line core waiting waiting' how.Line
     command_waits tells = line_waits (subst (λ t. IsTold scopes p t waiting waiting' core) (command_told p line c is) tells)
 
     pub fault_waits : (fault : NameFault) → request_of c ≡ Err fault → CoreStands p scopes core → waiting' ≡ waiting ++ refused_text (fault_text fault) ++ line_feed
-        → RunsLine scopes p line core held held waiting waiting' (Ok tt)
+        → RunsLine scopes p line core waiting waiting' how.Line
     fault_waits fault wrong stands added =
         command_waits (subst (λ r. IsTold scopes p (told_request p r) waiting waiting' core) (sym wrong) (refused_text (fault_text fault) ++ line_feed, (refl, stands), added ∙ append_assoc waiting (refused_text (fault_text fault)) line_feed))
 
-    pub named_waits : (old : CoreState) → IsNamed scopes old c waiting waiting' (Ok tt) core → CoreStands p scopes old → RunsLine scopes p line core held held waiting waiting' (Ok tt)
+    pub named_waits : (old : CoreState) → IsNamed scopes old c waiting waiting' (Ok tt) core → CoreStands p scopes old → RunsLine scopes p line core waiting waiting' how.Line
     named_waits old (request, reads, answers) stands = command_waits (subst (λ r. IsTold scopes p (told_request p r) waiting waiting' core) (sym reads) (answers p stands))
 
-module _ (scopes : List Scope) (p : Plain) (line : List ℕ) (core : CoreState) (held held' : Known) (waiting waiting' : List ℕ) where
-  -- a text goes behind what waits
-  pub line_written : (text : Option (List ℕ)) (result : Result Unit ScriptFault) → Tells scopes p (told read_line p line) text core → Writes held held' (waiting ++ bytes_of text) waiting' result
-      → RunsLine scopes p line core held held' waiting waiting' result
-  line_written text (Ok done) tells writes = (text, tells, writes)
-  line_written text (Err f) tells (is_write, none, out) = subst (λ g. RunsLine scopes p line core held held' waiting waiting' (Err g)) (sym is_write) (text, tells, out)
+-- a document that is made, or for which there is no memory
+pub document_made : {E : Type 0} (scopes : List Scope) (p : Plain) (line : List ℕ) (core : CoreState) (waiting : List ℕ) (made : Result (String Global) E) (due : List ℕ) → CoreStands p scopes core
+    → told read_line p line ≡ says due → IfOk made (λ text. string_bytes text ≡ due) → RunsLine scopes p line core waiting waiting (answered_by made)
+document_made scopes p line core waiting (Ok text) due stands is same =
+    document_tells_made scopes p line core (string_bytes text) stands (is ∙ ap says (sym same))
+document_made scopes p line core waiting (Err fault) due stands is same = tt
 
-  -- a document finds no memory: what waits goes out, or doesn't
-  pub document_wanting : AsksDocument line → GoesOut held held' waiting waiting' → waiting' ≡ [] → RunsLine scopes p line core held held' waiting waiting' (Err fault.Memory)
-  document_wanting wants (written, went, all) none = (wants, subst (Appends held held') (sym (all ∙ ap (λ (t : List ℕ). written ++ t) none ∙ append-nil written)) went)
-
-  pub document_unwritten : (f : ScriptFault) → AsksDocument line × CoreStands p scopes core → Writes held held' waiting waiting' (Err f) → RunsLine scopes p line core held held' waiting waiting' (Err f)
-  document_unwritten f (wants, stands) (is_write, none, out) =
-      let text = document_tells scopes p line core stands wants in
-      subst (λ g. RunsLine scopes p line core held held' waiting waiting' (Err g)) (sym is_write) (Some text.0, text.1, cut_before held held' waiting text.0 out)
-
--- ---- a run so far
-
--- a state that the core stands for; the lines that are done; what was to be written, of which some waits; and whatever
--- completes more lines completes the lines that are done and these
-abbrev pub SoFar : List Scope → Plain → (script rest : List ℕ) → CoreState → Known → Known → (waiting : List ℕ) → Type 0
-SoFar scopes p script rest core held held' waiting =
-    (q : Plain) × CoreStands q scopes core × ((before : List (List ℕ)) × (all : List ℕ) × (lines script ≡ before ++ lines rest) × GoesOut held held' all waiting
-    × ((more : List (List ℕ)) (out : List ℕ) → Output Answers read_line q more out → Output Answers read_line p (before ++ more) (all ++ out)))
-
-pub begins : (scopes : List Scope) (p : Plain) (script : List ℕ) (core : CoreState) (held : Known) → CoreStands p scopes core → SoFar scopes p script script core held held []
-begins scopes p script core held stands = (p, stands, ([], [], refl, nothing_out held [], λ more out is. is))
-
--- some of what waited goes out
-goes_further : (a b c : Known) (all waiting left : List ℕ) → GoesOut a b all waiting → GoesOut b c waiting left → GoesOut a c all left
-goes_further a b c all waiting left went more =
-    subst (λ x. GoesOut a c x left) (append-nil all) (goes_on a b c all waiting [] left went (subst (λ x. GoesOut b c x left) (sym (append-nil waiting)) more))
-
-module _ (scopes : List Scope) (p : Plain) (script rest : List ℕ) (core : CoreState) (held held' held'' : Known) (waiting waiting' : List ℕ) where
-  -- what waited goes out before a line, or doesn't
-  pub room_made : SoFar scopes p script rest core held held' waiting → GoesOut held' held'' waiting waiting' → SoFar scopes p script rest core held held'' waiting'
-  room_made (q, stands, (before, all, done, went, completes)) more = (q, stands, (before, all, done, goes_further held held' held'' all waiting waiting' went more, completes))
-
-  pub room_failed : (f : ScriptFault) → SoFar scopes p script rest core held held' waiting → Writes held' held'' waiting waiting' (Err f) → RunsLines p script held held'' (Err f)
-  room_failed f (q, stands, (before, all, done, went, completes)) (is_write, none, (left, some, writes)) =
-      let o : List ℕ = output_from read_line q (lines rest) in
-      let here : Output Answers read_line p (lines script) (all ++ o) = subst (λ ls. Output Answers read_line p ls (all ++ o)) (sym done) (completes (lines rest) o (has_output q (lines rest))) in
-      subst (λ g. RunsLines p script held held'' (Err g)) (sym is_write) (all ++ o, here, cut_before held held'' all o (left, some, goes_further held held' held'' all waiting left went writes))
-
-module _ (scopes : List Scope) (p : Plain) (script rest line after : List ℕ) (core core' : CoreState) (held held' held'' : Known) (waiting waiting' : List ℕ) (first : lines rest ≡ line ∷ lines after) where
-  pub line_done : SoFar scopes p script rest core held held' waiting → ((q : Plain) → CoreStands q scopes core → RunsLine scopes q line core' held' held'' waiting waiting' (Ok tt)) → SoFar scopes p script after core' held held'' waiting'
-  line_done (q, stands, (before, all, done, went, completes)) runs = by (runs q stands)
-    where
-      by : RunsLine scopes q line core' held' held'' waiting waiting' (Ok tt) → SoFar scopes p script after core' held held'' waiting'
-      by (text, tells, writes) = from (tells_adds scopes q (told read_line q line) text core' tells)
-        where
-          from : (r : Plain) × CoreStands r scopes core' × ((Rest : Plain → List ℕ → Type 0) (out : List ℕ) → Rest r out → Adds Answers q (told read_line q line) Rest (bytes_of text ++ out)) → SoFar scopes p script after core' held held'' waiting'
-          from (r, stands', adds) = (
-            r,
-            stands',
-            (
-              before ++ line ∷ [],
-              all ++ bytes_of text,
-              done ∙ ap (λ (ls : List (List ℕ)). before ++ ls) first ∙ sym (append_assoc before (line ∷ []) (lines after)),
-              goes_on held held' held'' all waiting (bytes_of text) waiting' went writes,
-              λ more out is.
-                  let added : Output Answers read_line q (line ∷ more) (bytes_of text ++ out) = adds (λ s rest. Output Answers read_line s more rest) out is in
-                  subst (λ ls. Output Answers read_line p ls ((all ++ bytes_of text) ++ out)) (sym (append_assoc before (line ∷ []) more))
-                  (subst (λ o. Output Answers read_line p (before ++ line ∷ more) o) (sym (append_assoc all (bytes_of text) out)) (completes (line ∷ more) (bytes_of text ++ out) added)),
-            ),
-          )
-
-  pub line_failed : (f : ScriptFault) → SoFar scopes p script rest core held held' waiting → ((q : Plain) → CoreStands q scopes core → RunsLine scopes q line core' held' held'' waiting waiting' (Err f)) → RunsLines p script held held'' (Err f)
-  line_failed fault.Write (q, stands, (before, all, done, went, completes)) runs = by (runs q stands)
-    where
-      by : RunsLine scopes q line core' held' held'' waiting waiting' (Err fault.Write) → RunsLines p script held held'' (Err fault.Write)
-      by (text, tells, (left, some, writes)) = from (tells_adds scopes q (told read_line q line) text core' tells)
-        where
-          from : (r : Plain) × CoreStands r scopes core' × ((Rest : Plain → List ℕ → Type 0) (out : List ℕ) → Rest r out → Adds Answers q (told read_line q line) Rest (bytes_of text ++ out)) → RunsLines p script held held'' (Err fault.Write)
-          from (r, stands', adds) =
-              let o : List ℕ = output_from read_line r (lines after) in
-              let added : Output Answers read_line q (line ∷ lines after) (bytes_of text ++ o) = adds (λ s rest. Output Answers read_line s (lines after) rest) o (has_output r (lines after)) in
-              let here : Output Answers read_line p (before ++ line ∷ lines after) ((all ++ bytes_of text) ++ o) =
-              subst (λ x. Output Answers read_line p (before ++ line ∷ lines after) x) (sym (append_assoc all (bytes_of text) o)) (completes (line ∷ lines after) (bytes_of text ++ o) added) in (
-                (all ++ bytes_of text) ++ o,
-                subst (λ ls. Output Answers read_line p ls ((all ++ bytes_of text) ++ o)) (sym (done ∙ ap (λ (ls : List (List ℕ)). before ++ ls) first)) here,
-                cut_before held held'' (all ++ bytes_of text) o (left, some, goes_on held held' held'' all waiting (bytes_of text) left went writes),
-              )
-  line_failed fault.Memory (q, stands, (before, all, done, (written, went, is_all), completes)) runs = by (runs q stands)
-    where
-      by : RunsLine scopes q line core' held' held'' waiting waiting' (Err fault.Memory) → RunsLines p script held held'' (Err fault.Memory)
-      by (wants, went_then) =
-          let nil : Output Answers read_line q [] [] = refl in
-          let out : Output Answers read_line p before (written ++ waiting) =
-          subst (λ ls. Output Answers read_line p ls (written ++ waiting)) (append-nil before) (subst (λ o. Output Answers read_line p (before ++ []) o) (append-nil all ∙ is_all) (completes [] [] nil)) in
-          let o : List ℕ = output_from read_line q (line ∷ lines after) in
-          let whole : Output Answers read_line p (lines script) ((written ++ waiting) ++ o) =
-          subst (λ ls. Output Answers read_line p ls ((written ++ waiting) ++ o)) (sym here)
-          (subst (λ a. Output Answers read_line p (before ++ line ∷ lines after) (a ++ o)) is_all (completes (line ∷ lines after) o (has_output q (line ∷ lines after)))) in
-          (written ++ waiting, o, Appends-trans held held' held'' written waiting went went_then, (before, line, lines after, here, wants, out), whole)
-        where
-          here : lines script ≡ before ++ line ∷ lines after
-          here = done ∙ ap (λ (ls : List (List ℕ)). before ++ ls) first
-  line_failed fault.Read (q, stands, so_far) runs = absurd (runs q stands)
-  line_failed fault.TooLong (q, stands, so_far) runs = absurd (runs q stands)
-
--- ---- the end
-
-pub ends : (scopes : List Scope) (p : Plain) (script rest : List ℕ) (core : CoreState) (held held' held'' : Known) (waiting waiting' : List ℕ) (result : Result Unit ScriptFault)
-    → SoFar scopes p script rest core held held' waiting → lines rest ≡ [] → Writes held' held'' waiting waiting' result → waiting' ≡ [] → RunsLines p script held held'' result
-ends scopes p script rest core held held' held'' waiting waiting' result (q, stands, (before, all, done, went, completes)) none writes empty = by result writes empty
-  where
-    nil : Output Answers read_line q [] []
-    nil = refl
-
-    out : Output Answers read_line p (lines script) all
-    out = subst (λ ls. Output Answers read_line p ls all) (sym (done ∙ ap (λ (ls : List (List ℕ)). before ++ ls) none))
-        (subst (λ o. Output Answers read_line p (before ++ []) o) (append-nil all) (completes [] [] nil))
-
-    flushed : (left : List ℕ) → GoesOut held' held'' waiting left → GoesOut held held'' all left
-    flushed left more = goes_further held held' held'' all waiting left went more
-
-    by : (result : Result Unit ScriptFault) → Writes held' held'' waiting waiting' result → waiting' ≡ [] → RunsLines p script held held'' result
-    by (Ok tt) writes empty =
-        let gone = flushed waiting' writes in
-        (gone.0, gone.1, subst (λ o. Output Answers read_line p (lines script) o) (gone.2 ∙ ap (λ (t : List ℕ). gone.0 ++ t) empty ∙ append-nil gone.0) out)
-    by (Err f) (is_write, none, (left, some, writes)) empty = subst (λ g. RunsLines p script held held'' (Err g)) (sym is_write) (all, out, (left, some, flushed left writes))
+-- what holds is held of a document
+pub on_document : (answered : Answered) {P : Type 0} → P → OnDocument answered P
+on_document how.Line holds = tt
+on_document (how.Document text) holds = holds
+on_document how.NoMemory holds = holds
 
 -- ---- the whole run
 

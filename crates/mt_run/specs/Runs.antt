@@ -1,5 +1,5 @@
 -- What a run of a script does to its reader and its writer.
-use Rattle.std.specs.Prelude.{◌≡◌, ◌≢◌, ◌⊎◌, ⊤, ℕ, Bool, true, false, List, [], ◌∷◌, ◌++◌, Option, None, Some, Result, Ok, Err}
+use Rattle.std.specs.Prelude.{◌≡◌, ◌≢◌, ◌⊎◌, ⊤, ℕ, Bool, true, false, List, [], ◌∷◌, ◌++◌, Option, None, Some, Result, Ok, Err, String, Global, string_bytes}
 use Rattle.std.specs.Str.Lines.{lines}
 use Rattle.std.specs.Io.KnownBytes.{Appends, Consumes}
 use Rattle.mt_model.specs.declared.entries.Scope.{Scope}
@@ -19,8 +19,10 @@ use Rattle.mt_plain.specs.Script as script
 use Rattle.mt_names.specs.declared.fault.NameFault.{NameFault}
 use Rattle.mt_script.specs.declared.fault.ScriptFault.{ScriptFault}
 use Rattle.mt_script.specs.declared.fault.ScriptFault.TheVariants as fault
-use Rattle.mt_script.specs.Bytes.{GoesOut, HasRead, IsCutShort, IsWhole, Known}
+use Rattle.mt_script.specs.Bytes.{HasRead, IsCutShort, IsWhole, Known}
 use Rattle.mt_stands.specs.Ways.{CoreStands, CoreState}
+use Rattle.mt_run.specs.declared.line_run.Answered.{Answered}
+use Rattle.mt_run.specs.declared.line_run.Answered.TheVariants as how
 
 -- ---- a line
 
@@ -75,16 +77,23 @@ abbrev pub through_text : {A : Type 0} → (A → Answer) → Result A TopologyF
 through_text answer_of (Ok told) = answer_text (answer_of told) ++ line_feed
 through_text answer_of (Err fault) = refused_text (topology_fault_text fault) ++ line_feed
 
--- a line is answered, and its text is written behind what waited. Where a document finds no memory, all that waited is
--- written, and nothing more
-abbrev pub RunsLine : List Scope → Plain → (line : List ℕ) → CoreState → Known → Known → (waiting waiting' : List ℕ) → Result Unit ScriptFault → Type 0
-RunsLine scopes p line core held held' waiting waiting' (Ok done) =
-    (text : Option (List ℕ)) × Tells scopes p (told read_line p line) text core × GoesOut held held' (waiting ++ bytes_of text) waiting'
-RunsLine scopes p line core held held' waiting waiting' (Err fault.Memory) = AsksDocument line × Appends held held' waiting
-RunsLine scopes p line core held held' waiting waiting' (Err fault.Write) =
-    (text : Option (List ℕ)) × Tells scopes p (told read_line p line) text core × IsCutShort held held' (waiting ++ bytes_of text)
-RunsLine scopes p line core held held' waiting waiting' (Err fault.Read) = ⊥
-RunsLine scopes p line core held held' waiting waiting' (Err fault.TooLong) = ⊥
+-- a line is answered: its text stands behind what waited, or is a document with a line feed. Of one that finds no memory for a document nothing is told
+abbrev pub RunsLine : List Scope → Plain → (line : List ℕ) → CoreState → (waiting waiting' : List ℕ) → Answered → Type 0
+RunsLine scopes p line core waiting waiting' how.Line =
+    (text : Option (List ℕ)) × Tells scopes p (told read_line p line) text core × (waiting' ≡ waiting ++ bytes_of text)
+RunsLine scopes p line core waiting waiting' (how.Document text) = Tells scopes p (told read_line p line) (Some (string_bytes text ++ line_feed)) core
+RunsLine scopes p line core waiting waiting' how.NoMemory = ⊤
+
+-- by a document that is made, or for which there was no memory
+abbrev pub answered_by : {E : Type 0} → Result (String Global) E → Answered
+answered_by (Ok text) = how.Document text
+answered_by (Err fault) = how.NoMemory
+
+-- of a line that asks for a document
+abbrev pub OnDocument : Answered → Type 0 → Type 0
+OnDocument how.Line holds = ⊤
+OnDocument (how.Document text) holds = holds
+OnDocument how.NoMemory holds = holds
 
 -- a script ran up to a line that asks for a document, and what the lines before it tell is written
 abbrev pub RunsToDocument : Plain → (script written : List ℕ) → Type 0

@@ -15,13 +15,14 @@ ghost use Rattle.mt_workflow.specs.Workflows.{stream_name};
 ghost use Rattle.mt_run.specs.Runs.{IsAnswered, IsNamed};
 
 use crate::cached::CachedSite;
+use arrayvec::ArrayVec;
 use mt_event::{Event, Reason, ShownOf};
 use mt_names::{
     KeyRange, KeyspaceName, NameFault, RuleKey, RuleTarget, ShardList, TableName, TypeSet,
     WorkflowName, table_list,
 };
 use mt_script::{
-    AdvanceWords, CreateWords, LONGEST_LINE, QualifiedName, ROOM, RowAsked, Waiting, WorkflowAsked,
+    AdvanceWords, CreateWords, LONGEST_LINE, QualifiedName, RowAsked, WorkflowAsked,
     put_advanced, put_answer, put_created, put_driven, put_reason, put_shown, put_written,
 };
 use mt_site::{Command, drive};
@@ -29,8 +30,8 @@ use mt_stream::Advanced;
 use mt_watch::Asks;
 
 /// Tells that a command is done, or why it is refused.
-fn tell_done(told: &Result<(), Reason>, waiting: &mut Waiting)
-    requires room { length waiting.old.items + LONGEST_LINE ≤ ROOM }
+fn tell_done<const N: usize>(told: &Result<(), Reason>, waiting: &mut ArrayVec<u8, N>)
+    requires room { length waiting.old.items + LONGEST_LINE ≤ N }
     ensures { waiting.new.items ≡ waiting.old.items ++ answer_text (done_by told.now) ++ line_feed }
 {
     match told {
@@ -41,8 +42,8 @@ fn tell_done(told: &Result<(), Reason>, waiting: &mut Waiting)
 
 /// Asks for what a command does.
 #[inline(never)]
-fn command<A: Asks>(cached: &mut CachedSite<A>, asked: Command<'_>, waiting: &mut Waiting)
-    requires room { length waiting.old.items + LONGEST_LINE ≤ ROOM }
+fn command<A: Asks, const N: usize>(cached: &mut CachedSite<A>, asked: Command<'_>, waiting: &mut ArrayVec<u8, N>)
+    requires room { length waiting.old.items + LONGEST_LINE ≤ N }
     ensures watchers { cached.new.site.watchers ≡ cached.old.site.watchers }
     ensures answered { IsAnswered (A.scopes cached.old.site.watchers) cached.old.site.core (event (event_of_command asked.entry)) waiting.old.items waiting.new.items cached.new.site.core }
 {
@@ -51,13 +52,13 @@ fn command<A: Asks>(cached: &mut CachedSite<A>, asked: Command<'_>, waiting: &mu
 }
 
 /// Makes a keyspace with its shards.
-pub fn add_keyspace<A: Asks>(
+pub fn add_keyspace<A: Asks, const N: usize>(
     cached: &mut CachedSite<A>,
     name: &str,
     shards: &str,
-    waiting: &mut Waiting,
+    waiting: &mut ArrayVec<u8, N>,
 ) -> Result<(), NameFault>
-    requires room { length waiting.old.items + LONGEST_LINE ≤ ROOM }
+    requires room { length waiting.old.items + LONGEST_LINE ≤ N }
     ensures watchers { cached.new.site.watchers ≡ cached.old.site.watchers }
     ensures named { IsNamed (A.scopes cached.old.site.watchers) cached.old.site.core (language.keyspace name.now shards.now) waiting.old.items waiting.new.items result cached.new.site.core }
 {
@@ -68,13 +69,13 @@ pub fn add_keyspace<A: Asks>(
 }
 
 /// Makes a table.
-pub fn add_table<A: Asks>(
+pub fn add_table<A: Asks, const N: usize>(
     cached: &mut CachedSite<A>,
     keyspace: &str,
     name: &str,
-    waiting: &mut Waiting,
+    waiting: &mut ArrayVec<u8, N>,
 ) -> Result<(), NameFault>
-    requires room { length waiting.old.items + LONGEST_LINE ≤ ROOM }
+    requires room { length waiting.old.items + LONGEST_LINE ≤ N }
     ensures watchers { cached.new.site.watchers ≡ cached.old.site.watchers }
     ensures named { IsNamed (A.scopes cached.old.site.watchers) cached.old.site.core (language.table keyspace.now name.now) waiting.old.items waiting.new.items result cached.new.site.core }
 {
@@ -96,13 +97,13 @@ fn rule_target(word: &str) -> Result<Option<RuleTarget>, NameFault>
 }
 
 /// Sets a routing rule, or takes it away.
-pub fn edit_rule<A: Asks>(
+pub fn edit_rule<A: Asks, const N: usize>(
     cached: &mut CachedSite<A>,
     key: &str,
     target: &str,
-    waiting: &mut Waiting,
+    waiting: &mut ArrayVec<u8, N>,
 ) -> Result<(), NameFault>
-    requires room { length waiting.old.items + LONGEST_LINE ≤ ROOM }
+    requires room { length waiting.old.items + LONGEST_LINE ≤ N }
     ensures watchers { cached.new.site.watchers ≡ cached.old.site.watchers }
     ensures named { IsNamed (A.scopes cached.old.site.watchers) cached.old.site.core (language.rule key.now target.now) waiting.old.items waiting.new.items result cached.new.site.core }
 {
@@ -113,8 +114,8 @@ pub fn edit_rule<A: Asks>(
 }
 
 /// Asks for an event.
-fn ask<A: Asks>(cached: &mut CachedSite<A>, asked: &Event, waiting: &mut Waiting)
-    requires room { length waiting.old.items + LONGEST_LINE ≤ ROOM }
+fn ask<A: Asks, const N: usize>(cached: &mut CachedSite<A>, asked: &Event, waiting: &mut ArrayVec<u8, N>)
+    requires room { length waiting.old.items + LONGEST_LINE ≤ N }
     ensures watchers { cached.new.site.watchers ≡ cached.old.site.watchers }
     ensures answered { IsAnswered (A.scopes cached.old.site.watchers) cached.old.site.core (event (event_of asked.now)) waiting.old.items waiting.new.items cached.new.site.core }
 {
@@ -124,13 +125,13 @@ fn ask<A: Asks>(cached: &mut CachedSite<A>, asked: &Event, waiting: &mut Waiting
 
 /// Writes or reads a row of a table of a keyspace.
 #[inline(never)]
-pub fn row_at<A: Asks>(
+pub fn row_at<A: Asks, const N: usize>(
     cached: &mut CachedSite<A>,
     name: &QualifiedName<'_>,
     asked: &RowAsked<'_>,
-    waiting: &mut Waiting,
+    waiting: &mut ArrayVec<u8, N>,
 ) -> Result<(), NameFault>
-    requires room { length waiting.old.items + LONGEST_LINE ≤ ROOM }
+    requires room { length waiting.old.items + LONGEST_LINE ≤ N }
     ensures watchers { cached.new.site.watchers ≡ cached.old.site.watchers }
     ensures named { IsNamed (A.scopes cached.old.site.watchers) cached.old.site.core (row_from language.change_at language.get_at name.now asked.now) waiting.old.items waiting.new.items result cached.new.site.core }
 {
@@ -160,12 +161,12 @@ pub fn row_at<A: Asks>(
 
 /// Makes a workflow.
 #[inline(never)]
-pub fn create<A: Asks>(
+pub fn create<A: Asks, const N: usize>(
     cached: &mut CachedSite<A>,
     words: CreateWords<'_>,
-    waiting: &mut Waiting,
+    waiting: &mut ArrayVec<u8, N>,
 ) -> Result<(), NameFault>
-    requires room { length waiting.old.items + LONGEST_LINE ≤ ROOM }
+    requires room { length waiting.old.items + LONGEST_LINE ≤ N }
     ensures watchers { cached.new.site.watchers ≡ cached.old.site.watchers }
     ensures named { IsNamed (A.scopes cached.old.site.watchers) cached.old.site.core (language.create words.entry.workflow.now words.entry.source.now words.entry.target.now words.entry.tables.now) waiting.old.items waiting.new.items result cached.new.site.core }
 {
@@ -186,8 +187,8 @@ pub fn create<A: Asks>(
 }
 
 /// Tells what an advance did, or why it is refused.
-fn tell_advanced(told: &Result<Advanced, Reason>, waiting: &mut Waiting)
-    requires room { length waiting.old.items + LONGEST_LINE ≤ ROOM }
+fn tell_advanced<const N: usize>(told: &Result<Advanced, Reason>, waiting: &mut ArrayVec<u8, N>)
+    requires room { length waiting.old.items + LONGEST_LINE ≤ N }
     ensures { waiting.new.items ≡ waiting.old.items ++ answer_text (advanced_from told.now) ++ line_feed }
 {
     match told {
@@ -197,14 +198,14 @@ fn tell_advanced(told: &Result<Advanced, Reason>, waiting: &mut Waiting)
 }
 
 /// Advances a stream of a workflow in the shard of a range, which leaves where names lead. It asks nobody.
-fn advance<A: Asks>(
+fn advance<A: Asks, const N: usize>(
     cached: &mut CachedSite<A>,
     workflow: &WorkflowName,
     range: &KeyRange,
     words: AdvanceWords<'_>,
-    waiting: &mut Waiting,
+    waiting: &mut ArrayVec<u8, N>,
 )
-    requires room { length waiting.old.items + LONGEST_LINE ≤ ROOM }
+    requires room { length waiting.old.items + LONGEST_LINE ≤ N }
     ensures watchers { cached.new.site.watchers ≡ cached.old.site.watchers }
     ensures answered { (scopes : List Scope) → IsAnswered scopes cached.old.site.core (language.advance_in workflow.now (stream_name words.entry.stream) range.now words.entry.at words.entry.max) waiting.old.items waiting.new.items cached.new.site.core }
 {
@@ -224,8 +225,8 @@ fn advance<A: Asks>(
 }
 
 /// Tells what is told of a workflow, or why it is refused.
-fn tell_shown(told: &Result<ShownOf<'_>, Reason>, waiting: &mut Waiting)
-    requires room { length waiting.old.items + LONGEST_LINE ≤ ROOM }
+fn tell_shown<const N: usize>(told: &Result<ShownOf<'_>, Reason>, waiting: &mut ArrayVec<u8, N>)
+    requires room { length waiting.old.items + LONGEST_LINE ≤ N }
     ensures { waiting.new.items ≡ waiting.old.items ++ answer_text (shown_answer told.now) ++ line_feed }
 {
     match told {
@@ -235,8 +236,8 @@ fn tell_shown(told: &Result<ShownOf<'_>, Reason>, waiting: &mut Waiting)
 }
 
 /// Tells of a workflow, which leaves all as it is. It asks nobody.
-fn show<A: Asks>(cached: &CachedSite<A>, workflow: &WorkflowName, waiting: &mut Waiting)
-    requires room { length waiting.old.items + LONGEST_LINE ≤ ROOM }
+fn show<A: Asks, const N: usize>(cached: &CachedSite<A>, workflow: &WorkflowName, waiting: &mut ArrayVec<u8, N>)
+    requires room { length waiting.old.items + LONGEST_LINE ≤ N }
     ensures { (scopes : List Scope) → IsAnswered scopes cached.now.site.core (event (plain.show workflow.now)) waiting.old.items waiting.new.items cached.now.site.core }
 {
     tell_shown(&cached.site.core().shown(workflow), waiting);
@@ -244,14 +245,14 @@ fn show<A: Asks>(cached: &CachedSite<A>, workflow: &WorkflowName, waiting: &mut 
 
 /// Switches the traffic of a workflow as a whole, or reverses it.
 #[inline(never)]
-fn drive_whole<A: Asks>(
+fn drive_whole<A: Asks, const N: usize>(
     cached: &mut CachedSite<A>,
     workflow: &WorkflowName,
     types: TypeSet,
     back: bool,
-    waiting: &mut Waiting,
+    waiting: &mut ArrayVec<u8, N>,
 )
-    requires room { length waiting.old.items + LONGEST_LINE ≤ ROOM }
+    requires room { length waiting.old.items + LONGEST_LINE ≤ N }
     ensures watchers { cached.new.site.watchers ≡ cached.old.site.watchers }
     ensures answered { IsAnswered (A.scopes cached.old.site.watchers) cached.old.site.core (language.drive workflow.now types back) waiting.old.items waiting.new.items cached.new.site.core }
 {
@@ -261,13 +262,13 @@ fn drive_whole<A: Asks>(
 
 /// Does what is asked for of a workflow.
 #[inline(never)]
-pub fn workflow<A: Asks>(
+pub fn workflow<A: Asks, const N: usize>(
     cached: &mut CachedSite<A>,
     name: &str,
     asked: WorkflowAsked<'_>,
-    waiting: &mut Waiting,
+    waiting: &mut ArrayVec<u8, N>,
 ) -> Result<(), NameFault>
-    requires room { length waiting.old.items + LONGEST_LINE ≤ ROOM }
+    requires room { length waiting.old.items + LONGEST_LINE ≤ N }
     ensures watchers { cached.new.site.watchers ≡ cached.old.site.watchers }
     ensures named { IsNamed (A.scopes cached.old.site.watchers) cached.old.site.core (asked_from name.now asked.entry) waiting.old.items waiting.new.items result cached.new.site.core }
 {

@@ -8,19 +8,20 @@ ghost use Rattle.mt_site.specs.ByHand.{read_from};
 ghost use Rattle.mt_run.specs.Runs.{IsRowTold, through_text};
 
 use crate::cached::CachedSite;
+use arrayvec::ArrayVec;
 use mt_event::Reason;
 use mt_model::{Op, TopologyFault};
 use mt_names::{RuleKey, TabletType, Value};
 use mt_script::{
-    LONGEST_LINE, OpText, ROOM, RowAsked, Waiting, put_fault, put_look_up, put_reason, put_row,
+    LONGEST_LINE, OpText, RowAsked, put_fault, put_look_up, put_reason, put_row,
     put_written,
 };
 use mt_watch::Asks;
 
 /// Tells of a write through a name.
 #[inline(always)]
-fn tell_written(told: &Result<Result<(), Reason>, TopologyFault>, waiting: &mut Waiting)
-    requires room { length waiting.old.items + LONGEST_LINE ≤ ROOM }
+fn tell_written<const N: usize>(told: &Result<Result<(), Reason>, TopologyFault>, waiting: &mut ArrayVec<u8, N>)
+    requires room { length waiting.old.items + LONGEST_LINE ≤ N }
     ensures { waiting.new.items ≡ waiting.old.items ++ through_text done_by told.now }
 {
     match told {
@@ -32,8 +33,8 @@ fn tell_written(told: &Result<Result<(), Reason>, TopologyFault>, waiting: &mut 
 
 /// Tells of a row that was read where a name leads.
 #[inline(always)]
-fn tell_row(told: &Result<Option<Value>, Reason>, waiting: &mut Waiting)
-    requires room { length waiting.old.items + LONGEST_LINE ≤ ROOM }
+fn tell_row<const N: usize>(told: &Result<Option<Value>, Reason>, waiting: &mut ArrayVec<u8, N>)
+    requires room { length waiting.old.items + LONGEST_LINE ≤ N }
     ensures { waiting.new.items ≡ waiting.old.items ++ answer_text (read_from told.now) ++ line_feed }
 {
     match told {
@@ -44,8 +45,8 @@ fn tell_row(told: &Result<Option<Value>, Reason>, waiting: &mut Waiting)
 
 /// Tells of a row that was read through a name.
 #[inline(always)]
-fn tell_read(told: &Result<Result<Option<Value>, Reason>, TopologyFault>, waiting: &mut Waiting)
-    requires room { length waiting.old.items + LONGEST_LINE ≤ ROOM }
+fn tell_read<const N: usize>(told: &Result<Result<Option<Value>, Reason>, TopologyFault>, waiting: &mut ArrayVec<u8, N>)
+    requires room { length waiting.old.items + LONGEST_LINE ≤ N }
     ensures { waiting.new.items ≡ waiting.old.items ++ through_text read_from told.now }
 {
     match told {
@@ -56,8 +57,8 @@ fn tell_read(told: &Result<Result<Option<Value>, Reason>, TopologyFault>, waitin
 
 /// Writes a row of the table that a name leads to, which has a keyspace or a type, or is in fault.
 #[inline(never)]
-fn write_by_key<A: Asks>(cached: &mut CachedSite<A>, name: &str, op: Op, waiting: &mut Waiting)
-    requires room { length waiting.old.items + LONGEST_LINE ≤ ROOM }
+fn write_by_key<A: Asks, const N: usize>(cached: &mut CachedSite<A>, name: &str, op: Op, waiting: &mut ArrayVec<u8, N>)
+    requires room { length waiting.old.items + LONGEST_LINE ≤ N }
     ensures watchers { cached.new.site.watchers ≡ cached.old.site.watchers }
     ensures told { IsRowTold cached.old.site.core (change name.now op) waiting.old.items waiting.new.items cached.new.site.core }
 {
@@ -69,8 +70,8 @@ fn write_by_key<A: Asks>(cached: &mut CachedSite<A>, name: &str, op: Op, waiting
 
 /// Writes a row of the table that a name leads to, which most often is a table's name alone.
 #[inline(always)]
-fn write<A: Asks>(cached: &mut CachedSite<A>, name: &str, text: &OpText<'_>, waiting: &mut Waiting)
-    requires room { length waiting.old.items + LONGEST_LINE ≤ ROOM }
+fn write<A: Asks, const N: usize>(cached: &mut CachedSite<A>, name: &str, text: &OpText<'_>, waiting: &mut ArrayVec<u8, N>)
+    requires room { length waiting.old.items + LONGEST_LINE ≤ N }
     ensures watchers { cached.new.site.watchers ≡ cached.old.site.watchers }
     ensures told { IsRowTold cached.old.site.core (change name.now (op_from text.now)) waiting.old.items waiting.new.items cached.new.site.core }
 {
@@ -82,8 +83,8 @@ fn write<A: Asks>(cached: &mut CachedSite<A>, name: &str, text: &OpText<'_>, wai
 
 /// Reads a row of the table that a name leads to, which has a keyspace or a type, or is in fault.
 #[inline(never)]
-fn read_by_key<A: Asks>(cached: &CachedSite<A>, name: &str, key: u64, waiting: &mut Waiting)
-    requires room { length waiting.old.items + LONGEST_LINE ≤ ROOM }
+fn read_by_key<A: Asks, const N: usize>(cached: &CachedSite<A>, name: &str, key: u64, waiting: &mut ArrayVec<u8, N>)
+    requires room { length waiting.old.items + LONGEST_LINE ≤ N }
     ensures { IsRowTold cached.now.site.core (get name.now key) waiting.old.items waiting.new.items cached.now.site.core }
 {
     match RuleKey::parse(name) {
@@ -97,8 +98,8 @@ fn read_by_key<A: Asks>(cached: &CachedSite<A>, name: &str, key: u64, waiting: &
 
 /// Reads a row of the table that a name leads to, which most often is a table's name alone.
 #[inline(always)]
-fn read<A: Asks>(cached: &mut CachedSite<A>, name: &str, key: u64, waiting: &mut Waiting)
-    requires room { length waiting.old.items + LONGEST_LINE ≤ ROOM }
+fn read<A: Asks, const N: usize>(cached: &mut CachedSite<A>, name: &str, key: u64, waiting: &mut ArrayVec<u8, N>)
+    requires room { length waiting.old.items + LONGEST_LINE ≤ N }
     ensures watchers { cached.new.site.watchers ≡ cached.old.site.watchers }
     ensures told { IsRowTold cached.old.site.core (get name.now key) waiting.old.items waiting.new.items cached.new.site.core }
 {
@@ -110,13 +111,13 @@ fn read<A: Asks>(cached: &mut CachedSite<A>, name: &str, key: u64, waiting: &mut
 
 /// Answers a line that asks for a row where a name leads.
 #[inline(always)]
-pub fn row<A: Asks>(
+pub fn row<A: Asks, const N: usize>(
     cached: &mut CachedSite<A>,
     name: &str,
     asked: &RowAsked<'_>,
-    waiting: &mut Waiting,
+    waiting: &mut ArrayVec<u8, N>,
 )
-    requires room { length waiting.old.items + LONGEST_LINE ≤ ROOM }
+    requires room { length waiting.old.items + LONGEST_LINE ≤ N }
     ensures watchers { cached.new.site.watchers ≡ cached.old.site.watchers }
     ensures told { IsRowTold cached.old.site.core (row_from change get name.now asked.now) waiting.old.items waiting.new.items cached.new.site.core }
 {

@@ -2,6 +2,7 @@
 use Rattle.std.proofs.Common.{◌≡◌, subst}
 use Rattle.std.proofs.lemmas.Result.{err_from_is_err_and}
 use Rattle.mt_plain.specs.Plain.{opening}
+use Rattle.mt_run.specs.LineRuns.{SoFar}
 use Rattle.mt_run.specs.Runs.{RunsLines}
 use Rattle.mt_run.proofs.RunLemmas.{runs_lines, runs_read}
 use Rattle.mt_run.proofs.script.run_script.Goals as goal
@@ -17,5 +18,5 @@ returns g c =
     let scopes = g.A.Asks.scopes c.args.watchers in
     runs_lines scopes _ _ _ _ c.in_ok-script.script.items c.run_lines.result c.in_ok-script.ensures
     (subst (λ script. RunsLines (opening scopes) script (g.W.Write.contents c.args.writer.now) (g.W.Write.contents c.run_lines.new.writer) c.run_lines.result) c.deref.ensures.value
-    (subst (λ w. RunsLines (opening (g.A.Asks.scopes w)) c.deref.result.now (g.W.Write.contents c.args.writer.now) (g.W.Write.contents c.run_lines.new.writer) c.run_lines.result) c.open-cached.ensures.watchers
-    (c.run_lines.ensures (opening (g.A.Asks.scopes c.open-cached.result.site.watchers)) c.open-cached.ensures.stands)))
+    (subst (λ w. SoFar (g.A.Asks.scopes w) [] [] c.open-run.result.cached.site.core → RunsLines (opening (g.A.Asks.scopes w)) c.deref.result.now (g.W.Write.contents c.args.writer.now) (g.W.Write.contents c.run_lines.new.writer) c.run_lines.result) c.open-run.ensures.watchers
+    c.run_lines.ensures c.open-run.ensures.begins))

@@ -34,4 +34,4 @@ none_spec 𝓤 𝓛 𝓜 𝓡 wired =
     sets ! (agg ! (and_then ! (lit ! tt) (no_more !))) refl (tt, (record { fits = lit< tt }, tt)) $
     use0 𝓛 (‵ (HeldData.own_val (null_ptr, tt) (held_of null_ptr ∷ []))) (held_made 𝓛 null_ptr) $ nothing ! $ move ! (1 ∷ 0 ∷ []) $ fjoin ! $
     use0 𝓛 (raw (fact 𝓤 Told)) (fact_i 𝓤 Told (emp 𝓤) refl) $ nothing ! $
-    returns ! (look_at ! 0 refl) $ free_all ! refl $ keep ! (3 ∷ 0 ∷ 2 ∷ 1 ∷ []) $ by ! (leaves 𝓛 En tt c z (held_of null_ptr) (record { at = null_ptr; full = empty }) tt tt)))
+    returns ! (look_at ! 0 refl) $ free_all ! refl $ keep ! (3 ∷ 0 ∷ 2 ∷ 1 ∷ []) $ by ! (leaves 𝓛 En tt c z (held_of null_ptr) (record { at = null_ptr; full = empty; scopes = []; lines = []; out = [] }) tt tt)))

@@ -3,7 +3,7 @@ use Rattle.std.proofs.Common.{◌≡◌, ◌∙◌, Some, arith, ap, length, sym
 use Rattle.mt_watch.specs.declared.fault.WatchFault.{WatchFault}
 use Rattle.mt_watch.proofs.AskLemmas.{LacksBelow-skip, lacks_scope-from, watcher_at}
 use Rattle.mt_watch.proofs.ScopeLemmas.{same_scope_decides}
-use Rattle.mt.proofs.tellers.TellersAsks.ask.Goals as goal
+use Rattle.mt_run.proofs.tellers.TellersAsks.ask.Goals as goal
 
 pub returns-in-Err : goal.returns-in-Err
 returns-in-Err c =

@@ -1,15 +1,15 @@
-//! Watchers that only tell, without callbacks.
+//! Whom a run has watch a topology.
 ghost use Rattle.std.specs.Prelude.{◌≡◌, IfErr, IfOk};
 ghost use Rattle.mt_plain.specs.Output.{watchers_of};
 
-use crate::status::Status;
 use mt_names::KeyspaceName;
+use mt_script::ScriptFault;
 use mt_watch::{Asks, Change, Notice, Scope, WatchersFault};
 use std::alloc::Global;
 
-/// Those that a session asks: one for the routers, and one for the primary of each keyspace that is named, in their order. Each tells what of a
-/// change concerns its scope, and refuses if there is no memory for that. `mt_watch::Watchers` hold callbacks, which no function can make and
-/// hand out, so a session can't begin with them.
+/// The watchers of a run: one for the routers, and one for the primary of each keyspace that is named, in their order; a keyspace that is named
+/// twice has two. Each tells itself what of a change concerns its scope, and refuses it if there is no memory for that. They hold no
+/// callbacks, so that a run can be handed out with them. (Vitess: those who follow SrvVSchema and the tablets' records)
 #[derive(Drop)]
 pub struct Tellers {
     scopes: Vec<Scope>,
@@ -17,18 +17,18 @@ pub struct Tellers {
 }
 
 impl Tellers {
-    /// Those of some keyspaces. `Memory` alone.
-    pub fn of(alloc: Global, keyspaces: &[KeyspaceName]) -> Result<Tellers, Status>
+    /// Those of some keyspaces. `ScriptFault::Memory` alone.
+    pub fn of(alloc: Global, keyspaces: &[KeyspaceName]) -> Result<Self, ScriptFault>
         ensures scopes { IfOk result (λ tellers. tellers.scopes.items ≡ watchers_of keyspaces.now) }
-        ensures memory { IfErr result (λ status. status ≡ Status.Memory) }
+        ensures memory { IfErr result (λ fault. fault ≡ ScriptFault.Memory) }
     {
         let mut scopes = Vec::new(alloc);
         if scopes.push(Scope::Routes).is_err() {
-            return Err(Status::Memory);
+            return Err(ScriptFault::Memory);
         }
         for keyspace in keyspaces {
             if scopes.push(Scope::Primary(keyspace.copied())).is_err() {
-                return Err(Status::Memory);
+                return Err(ScriptFault::Memory);
             }
         }
         Ok(Tellers { scopes, alloc })

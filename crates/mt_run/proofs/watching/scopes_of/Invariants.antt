@@ -1,6 +1,0 @@
-use Rattle.std.proofs.Common.{◌≡◌, take}
-use Rattle.mt_plain.specs.Output.{watchers_of}
-use Rattle.mt_run.proofs.watching.scopes_of.Given as goal
-
-abbrev pub invariant-loop-keyspace : goal.invariant-loop-keyspace
-invariant-loop-keyspace l = l.scopes.items ≡ watchers_of (take l.keyspace-index l.keyspaces)
