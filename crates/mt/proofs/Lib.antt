@@ -1,3 +1,4 @@
 pub mod ExportLemmas
 pub mod NameLemmas
+pub mod SessionLemmas
 pub mod Values

@@ -1,8 +1,10 @@
 //! Texts in a place that C lends.
 ghost use Rattle.std.specs.Prelude.{◌+◌, ◌++◌, ◌<◌, ◌^◌, length};
-ghost use Rattle.mt.specs.Places.{Puts};
+ghost use Rattle.mt.specs.Places.{Puts, PutsAnswer};
 
 use crate::status::Status;
+use mt_run::Answered;
+use mt_script::LineText;
 
 /// Puts two texts into a place, one behind the other, and says how many bytes they have. If there is no room for both, none is put.
 pub fn put(first: &[u8], second: &[u8], place: &mut [u8]) -> (Status, usize)
@@ -18,4 +20,15 @@ pub fn put(first: &[u8], second: &[u8], place: &mut [u8]) -> (Status, usize)
     left.copy_from_slice(first);
     right.copy_from_slice(second);
     (Status::Done, length)
+}
+
+/// Puts what answers a line into a place: what waits, or a document with its line feed, or nothing.
+pub fn put_answer(answered: &Answered, waiting: &LineText, place: &mut [u8]) -> (Status, usize)
+    ensures { PutsAnswer answered.now waiting.now.items place.old place.new result }
+{
+    match answered {
+        Answered::Line => put(waiting, b"", place),
+        Answered::Document(text) => put(text.as_bytes(), b"\n", place),
+        Answered::NoMemory => (Status::Memory, 0),
+    }
 }

@@ -3,10 +3,10 @@ ghost use Rattle.std.specs.Prelude.{IfErr, IfOk};
 ghost use Rattle.mt_run.specs.LineRuns.{SoFar};
 
 use crate::names::watched;
-use crate::place::put;
+use crate::place::put_answer;
 use crate::said::{Said, Told};
 use crate::status::Status;
-use mt_run::{Answered, LineRun, Tellers};
+use mt_run::{LineRun, Tellers};
 use mt_script::{LONGEST_LINE, LineText};
 use std::alloc::Global;
 
@@ -53,11 +53,8 @@ impl Session {
             return (Status::Room, 0);
         }
         self.waiting.clear();
-        let (status, count) = match self.run.answer(&mut self.waiting, line) {
-            Answered::Line => put(&self.waiting, b"", place),
-            Answered::Document(text) => put(text.as_bytes(), b"\n", place),
-            Answered::NoMemory => (Status::Memory, 0),
-        };
+        let answered = self.run.answer(&mut self.waiting, line);
+        let (status, count) = put_answer(&answered, &self.waiting, place);
         if status == Status::Done {
             self.said = self.said.then(&Told {
                 line,

@@ -54,9 +54,11 @@ lines_joined [] [] p more others each rest = rest
 lines_joined [] (run ∷ runs) p more others each rest = absurd each
 lines_joined (line ∷ before) [] p more others each rest = absurd each
 lines_joined (line ∷ before) (run ∷ runs) p more others each rest =
-    let ran : Run p run.events run.answers = script_is_a_run read_line p (line ∷ []) run.events run.answers run.text (one_line p line run each.0) in
-    (each.0, lines_joined before runs (after p run.events run.answers) more others each.1
-    (subst (λ q. AreLineRuns read_line q more others) (after_joined run.events run.answers p (events_in runs) (answers_in runs) ran) rest))
+    let ran : Run p run.events run.answers = script_is_a_run read_line p (line ∷ []) run.events run.answers run.text (one_line p line run each.0) in (
+      each.0,
+      lines_joined before runs (after p run.events run.answers) more others each.1
+          (subst (λ q. AreLineRuns read_line q more others) (after_joined run.events run.answers p (events_in runs) (answers_in runs) ran) rest),
+    )
 
 scripts_joined : (p : Plain) (before more : List (List ℕ)) (events events' : List Event) (answers answers' : List Answer) (out out' : List ℕ) → IsScriptRun read_line p before events answers out
     → IsScriptRun read_line (after p events answers) more events' answers' out' → IsScriptRun read_line p (before ++ more) (events ++ events') (answers ++ answers') (out ++ out')
@@ -107,9 +109,11 @@ module _ (scopes : List Scope) (before : List (List ℕ)) (out : List ℕ) (core
   completes : (more : List (List ℕ)) → (rest : List ℕ) × Output Answers read_line (opening scopes) (before ++ more) (out ++ rest)
   completes more =
       let rest = output_from read_line left more in
-      let (events, answers, ran) = output_was_a_run read_line left more rest (has_output left more) in
-      (rest, run_wrote read_line (opening scopes) (before ++ more) (so_far.events ++ events) (so_far.answers ++ answers) (out ++ rest)
-      (scripts_joined (opening scopes) before more so_far.events events so_far.answers answers out rest so_far.ran ran))
+      let (events, answers, ran) = output_was_a_run read_line left more rest (has_output left more) in (
+        rest,
+        run_wrote read_line (opening scopes) (before ++ more) (so_far.events ++ events) (so_far.answers ++ answers) (out ++ rest)
+            (scripts_joined (opening scopes) before more so_far.events events so_far.answers answers out rest so_far.ran ran),
+      )
 
   wrote : Output Answers read_line (opening scopes) before out
   wrote = run_wrote read_line (opening scopes) before so_far.events so_far.answers out so_far.ran
@@ -158,9 +162,12 @@ module _ (scopes : List Scope) (script rest : List ℕ) (core : CoreState) (held
   pub ends : (result : Result Unit ScriptFault) → Halfway scopes script rest core held held' waiting → lines rest ≡ [] → Writes held' held'' waiting waiting' result → waiting' ≡ [] → RunsLines (opening scopes) script held held'' result
   ends (Ok done) (before, out, are, went, so_far) none writes empty =
       let gone = goes_further held held' held'' out waiting waiting' went writes in
-      let all : lines script ≡ before = are ∙ ap (λ (ls : List (List ℕ)). before ++ ls) none ∙ append-nil before in
-      (gone.0, gone.1, subst (λ o. Output Answers read_line (opening scopes) (lines script) o) (gone.2 ∙ ap (λ (t : List ℕ). gone.0 ++ t) empty ∙ append-nil gone.0)
-      (subst (λ ls. Output Answers read_line (opening scopes) ls out) (sym all) (wrote scopes before out core so_far)))
+      let all : lines script ≡ before = are ∙ ap (λ (ls : List (List ℕ)). before ++ ls) none ∙ append-nil before in (
+        gone.0,
+        gone.1,
+        subst (λ o. Output Answers read_line (opening scopes) (lines script) o) (gone.2 ∙ ap (λ (t : List ℕ). gone.0 ++ t) empty ∙ append-nil gone.0)
+            (subst (λ ls. Output Answers read_line (opening scopes) ls out) (sym all) (wrote scopes before out core so_far)),
+      )
   ends (Err f) halfway none writes empty = room_failed f halfway writes
 
 module _ (scopes : List Scope) (script rest line after : List ℕ) (core new : CoreState) (held held' held'' : Known) (waiting waiting' waiting'' : List ℕ) (first : lines rest ≡ line ∷ lines after) where

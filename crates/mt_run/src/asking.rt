@@ -22,8 +22,8 @@ use mt_names::{
     WorkflowName, table_list,
 };
 use mt_script::{
-    AdvanceWords, CreateWords, LONGEST_LINE, QualifiedName, RowAsked, WorkflowAsked,
-    put_advanced, put_answer, put_created, put_driven, put_reason, put_shown, put_written,
+    AdvanceWords, CreateWords, LONGEST_LINE, QualifiedName, RowAsked, WorkflowAsked, put_advanced,
+    put_answer, put_created, put_driven, put_reason, put_shown, put_written,
 };
 use mt_site::{Command, drive};
 use mt_stream::Advanced;
@@ -42,7 +42,11 @@ fn tell_done<const N: usize>(told: &Result<(), Reason>, waiting: &mut ArrayVec<u
 
 /// Asks for what a command does.
 #[inline(never)]
-fn command<A: Asks, const N: usize>(cached: &mut CachedSite<A>, asked: Command<'_>, waiting: &mut ArrayVec<u8, N>)
+fn command<A: Asks, const N: usize>(
+    cached: &mut CachedSite<A>,
+    asked: Command<'_>,
+    waiting: &mut ArrayVec<u8, N>,
+)
     requires room { length waiting.old.items + LONGEST_LINE ≤ N }
     ensures watchers { cached.new.site.watchers ≡ cached.old.site.watchers }
     ensures answered { IsAnswered (A.scopes cached.old.site.watchers) cached.old.site.core (event (event_of_command asked.entry)) waiting.old.items waiting.new.items cached.new.site.core }
@@ -114,7 +118,11 @@ pub fn edit_rule<A: Asks, const N: usize>(
 }
 
 /// Asks for an event.
-fn ask<A: Asks, const N: usize>(cached: &mut CachedSite<A>, asked: &Event, waiting: &mut ArrayVec<u8, N>)
+fn ask<A: Asks, const N: usize>(
+    cached: &mut CachedSite<A>,
+    asked: &Event,
+    waiting: &mut ArrayVec<u8, N>,
+)
     requires room { length waiting.old.items + LONGEST_LINE ≤ N }
     ensures watchers { cached.new.site.watchers ≡ cached.old.site.watchers }
     ensures answered { IsAnswered (A.scopes cached.old.site.watchers) cached.old.site.core (event (event_of asked.now)) waiting.old.items waiting.new.items cached.new.site.core }
@@ -236,7 +244,11 @@ fn tell_shown<const N: usize>(told: &Result<ShownOf<'_>, Reason>, waiting: &mut 
 }
 
 /// Tells of a workflow, which leaves all as it is. It asks nobody.
-fn show<A: Asks, const N: usize>(cached: &CachedSite<A>, workflow: &WorkflowName, waiting: &mut ArrayVec<u8, N>)
+fn show<A: Asks, const N: usize>(
+    cached: &CachedSite<A>,
+    workflow: &WorkflowName,
+    waiting: &mut ArrayVec<u8, N>,
+)
     requires room { length waiting.old.items + LONGEST_LINE ≤ N }
     ensures { (scopes : List Scope) → IsAnswered scopes cached.now.site.core (event (plain.show workflow.now)) waiting.old.items waiting.new.items cached.now.site.core }
 {

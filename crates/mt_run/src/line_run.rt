@@ -94,11 +94,7 @@ impl<A: Asks> LineRun<A> {
     /// Answers the next line, without its line feed, where a line of output has room: a line of its answer is added to what waits to be
     /// written, and a document is handed out. An event that finds no memory is answered `refused F0 Memory`; where there is none for a document, the run is as
     /// it was, and so it is behind a document.
-    pub fn answer<const N: usize>(
-        &mut self,
-        waiting: &mut ArrayVec<u8, N>,
-        line: &[u8],
-    ) -> Answered
+    pub fn answer<const N: usize>(&mut self, waiting: &mut ArrayVec<u8, N>, line: &[u8]) -> Answered
         requires room { length waiting.old.items + LONGEST_LINE ≤ N }
         ensures watchers { self.new.cached.site.watchers ≡ self.old.cached.site.watchers }
         ensures adds { AddsLine (A.scopes self.old.cached.site.watchers) line.now self.old.cached.site.core self.new.cached.site.core waiting.old.items waiting.new.items result }

@@ -13,14 +13,16 @@ use mt_event::Reason;
 use mt_model::{Op, TopologyFault};
 use mt_names::{RuleKey, TabletType, Value};
 use mt_script::{
-    LONGEST_LINE, OpText, RowAsked, put_fault, put_look_up, put_reason, put_row,
-    put_written,
+    LONGEST_LINE, OpText, RowAsked, put_fault, put_look_up, put_reason, put_row, put_written,
 };
 use mt_watch::Asks;
 
 /// Tells of a write through a name.
 #[inline(always)]
-fn tell_written<const N: usize>(told: &Result<Result<(), Reason>, TopologyFault>, waiting: &mut ArrayVec<u8, N>)
+fn tell_written<const N: usize>(
+    told: &Result<Result<(), Reason>, TopologyFault>,
+    waiting: &mut ArrayVec<u8, N>,
+)
     requires room { length waiting.old.items + LONGEST_LINE ≤ N }
     ensures { waiting.new.items ≡ waiting.old.items ++ through_text done_by told.now }
 {
@@ -45,7 +47,10 @@ fn tell_row<const N: usize>(told: &Result<Option<Value>, Reason>, waiting: &mut 
 
 /// Tells of a row that was read through a name.
 #[inline(always)]
-fn tell_read<const N: usize>(told: &Result<Result<Option<Value>, Reason>, TopologyFault>, waiting: &mut ArrayVec<u8, N>)
+fn tell_read<const N: usize>(
+    told: &Result<Result<Option<Value>, Reason>, TopologyFault>,
+    waiting: &mut ArrayVec<u8, N>,
+)
     requires room { length waiting.old.items + LONGEST_LINE ≤ N }
     ensures { waiting.new.items ≡ waiting.old.items ++ through_text read_from told.now }
 {
@@ -57,7 +62,12 @@ fn tell_read<const N: usize>(told: &Result<Result<Option<Value>, Reason>, Topolo
 
 /// Writes a row of the table that a name leads to, which has a keyspace or a type, or is in fault.
 #[inline(never)]
-fn write_by_key<A: Asks, const N: usize>(cached: &mut CachedSite<A>, name: &str, op: Op, waiting: &mut ArrayVec<u8, N>)
+fn write_by_key<A: Asks, const N: usize>(
+    cached: &mut CachedSite<A>,
+    name: &str,
+    op: Op,
+    waiting: &mut ArrayVec<u8, N>,
+)
     requires room { length waiting.old.items + LONGEST_LINE ≤ N }
     ensures watchers { cached.new.site.watchers ≡ cached.old.site.watchers }
     ensures told { IsRowTold cached.old.site.core (change name.now op) waiting.old.items waiting.new.items cached.new.site.core }
@@ -70,7 +80,12 @@ fn write_by_key<A: Asks, const N: usize>(cached: &mut CachedSite<A>, name: &str,
 
 /// Writes a row of the table that a name leads to, which most often is a table's name alone.
 #[inline(always)]
-fn write<A: Asks, const N: usize>(cached: &mut CachedSite<A>, name: &str, text: &OpText<'_>, waiting: &mut ArrayVec<u8, N>)
+fn write<A: Asks, const N: usize>(
+    cached: &mut CachedSite<A>,
+    name: &str,
+    text: &OpText<'_>,
+    waiting: &mut ArrayVec<u8, N>,
+)
     requires room { length waiting.old.items + LONGEST_LINE ≤ N }
     ensures watchers { cached.new.site.watchers ≡ cached.old.site.watchers }
     ensures told { IsRowTold cached.old.site.core (change name.now (op_from text.now)) waiting.old.items waiting.new.items cached.new.site.core }
@@ -83,7 +98,12 @@ fn write<A: Asks, const N: usize>(cached: &mut CachedSite<A>, name: &str, text: 
 
 /// Reads a row of the table that a name leads to, which has a keyspace or a type, or is in fault.
 #[inline(never)]
-fn read_by_key<A: Asks, const N: usize>(cached: &CachedSite<A>, name: &str, key: u64, waiting: &mut ArrayVec<u8, N>)
+fn read_by_key<A: Asks, const N: usize>(
+    cached: &CachedSite<A>,
+    name: &str,
+    key: u64,
+    waiting: &mut ArrayVec<u8, N>,
+)
     requires room { length waiting.old.items + LONGEST_LINE ≤ N }
     ensures { IsRowTold cached.now.site.core (get name.now key) waiting.old.items waiting.new.items cached.now.site.core }
 {
@@ -98,7 +118,12 @@ fn read_by_key<A: Asks, const N: usize>(cached: &CachedSite<A>, name: &str, key:
 
 /// Reads a row of the table that a name leads to, which most often is a table's name alone.
 #[inline(always)]
-fn read<A: Asks, const N: usize>(cached: &mut CachedSite<A>, name: &str, key: u64, waiting: &mut ArrayVec<u8, N>)
+fn read<A: Asks, const N: usize>(
+    cached: &mut CachedSite<A>,
+    name: &str,
+    key: u64,
+    waiting: &mut ArrayVec<u8, N>,
+)
     requires room { length waiting.old.items + LONGEST_LINE ≤ N }
     ensures watchers { cached.new.site.watchers ≡ cached.old.site.watchers }
     ensures told { IsRowTold cached.old.site.core (get name.now key) waiting.old.items waiting.new.items cached.new.site.core }
