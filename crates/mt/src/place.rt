@@ -23,8 +23,8 @@ pub fn put(first: &[u8], second: &[u8], place: &mut [u8]) -> (Status, usize)
 }
 
 /// Puts what answers a line into a place: what waits, or a document with its line feed, or nothing.
-pub fn put_answer(answered: &Answered, waiting: &LineText, place: &mut [u8]) -> (Status, usize)
-    ensures { PutsAnswer answered.now waiting.now.items place.old place.new result }
+pub fn put_answer(answered: Answered, waiting: &LineText, place: &mut [u8]) -> (Status, usize)
+    ensures { PutsAnswer answered waiting.now.items place.old place.new result }
 {
     match answered {
         Answered::Line => put(waiting, b"", place),

@@ -54,7 +54,7 @@ impl Session {
         }
         self.waiting.clear();
         let answered = self.run.answer(&mut self.waiting, line);
-        let (status, count) = put_answer(&answered, &self.waiting, place);
+        let (status, count) = put_answer(answered, &self.waiting, place);
         if status == Status::Done {
             self.said = self.said.then(&Told {
                 line,

@@ -1,5 +1,5 @@
 -- What a line asks for, once it is read, and once its names are.
-use Rattle.std.proofs.Common.{◌≡◌, ℕ, Bool, false, true, List, [], ◌++◌, Result, Ok, Err, refl, sym, ap, append_assoc, subst, ◌∙◌}
+use Rattle.std.proofs.Common.{◌≡◌, ℕ, false, true, List, [], ◌++◌, Result, Ok, Err, refl, sym, ap, append_assoc, subst, ◌∙◌}
 use Rattle.std.specs.Prelude.{unwrap_or}
 use Rattle.arrayvec.specs.ArrayVec.{ArrayVec}
 use Rattle.mt_model.specs.declared.entries.Scope.{Scope}
@@ -16,7 +16,7 @@ use Rattle.mt_names.specs.Shards.{KeyRange, read_range}
 use Rattle.mt_names.specs.Tables.{names_of, read_table_list}
 use Rattle.mt_names.specs.Types.{read_type_set}
 use Rattle.mt_plain.specs.Events as plain
-use Rattle.mt_plain.specs.Output.{Told, line_feed, refused_text, says, told_line}
+use Rattle.mt_plain.specs.Output.{line_feed, refused_text, says, told_line}
 use Rattle.mt_plain.specs.Plain.{Plain}
 use Rattle.mt_plain.specs.Script.{Command, Request, advance_in, change_at, command, create, drive, event, get_at, read_line, request_of, type_of}
 use Rattle.mt_script.specs.declared.lines.LineRefusal.{LineRefusal}
@@ -29,7 +29,7 @@ use Rattle.mt_script.specs.Lines.{asked_from, line_refusal_text, op_from, refusa
 use Rattle.mt_stands.specs.Ways.{CoreStands, CoreState}
 use Rattle.mt_workflow.specs.Workflows.{stream_name}
 use Rattle.mt_run.specs.declared.line_run.Answered.TheVariants as how
-use Rattle.mt_run.specs.Runs.{IsAnswered, IsNamed, RunsLine}
+use Rattle.mt_run.specs.Runs.{IsNamed, RunsLine}
 use Rattle.mt_run.proofs.RunLemmas.{document_tells_made, fault_waits, line_waits, named_waits}
 
 -- ---- names, one after another

@@ -22,7 +22,7 @@ use Rattle.mt_script.proofs.GoesLemmas.{cut_before, goes_on, nothing_out}
 use Rattle.mt_stands.specs.Ways.{CoreStands, CoreState}
 use Rattle.mt_run.specs.declared.line_run.Answered.{Answered}
 use Rattle.mt_run.specs.declared.line_run.Answered.TheVariants as how
-use Rattle.mt_run.specs.LineRuns.{Adds, AddsLine, SoFar, WritesAnswer}
+use Rattle.mt_run.specs.LineRuns.{AddsLine, SoFar, WritesAnswer}
 use Rattle.mt_run.specs.Runs.{AsksDocument, OnDocument, RunsLine, RunsLines, bytes_of}
 use Rattle.mt_run.proofs.RunLemmas.{WasTold, has_output, tells_was}
 

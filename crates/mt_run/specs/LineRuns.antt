@@ -29,7 +29,7 @@ pub record SoFar (scopes : List Scope) (lines : List (List ℕ)) (out : List ℕ
 abbrev pub Adds : List Scope → (lines : List (List ℕ)) → (out line : List ℕ) → CoreState → (waiting waiting' : List ℕ) → Answered → Type 0
 Adds scopes lines out line new waiting waiting' how.Line =
     (text : List ℕ) × (waiting' ≡ waiting ++ text) × SoFar scopes (lines ++ line ∷ []) (out ++ text) new
-Adds scopes lines out line new waiting waiting' (how.Document text) = SoFar scopes (lines ++ line ∷ []) (out ++ string_bytes text ++ line_feed) new
+Adds scopes lines out line new waiting waiting' (how.Document text) = SoFar scopes (lines ++ line ∷ []) (out ++ (string_bytes text ++ line_feed)) new
 Adds scopes lines out line new waiting waiting' how.NoMemory = ⊤
 
 -- whatever the lines before it were and wrote, a line adds to that
@@ -40,7 +40,7 @@ AddsLine scopes line old new waiting waiting' answered =
 -- a document goes out behind what waited; where there was no memory for it, what waited does, and nothing more
 abbrev pub WritesAnswer : (held held' : Known) → (waiting waiting' : List ℕ) → Answered → Result Unit ScriptFault → Type 0
 WritesAnswer held held' waiting waiting' how.Line result = (result ≡ Ok tt) × (held' ≡ held) × (waiting' ≡ waiting)
-WritesAnswer held held' waiting waiting' (how.Document text) result = Writes held held' (waiting ++ string_bytes text ++ line_feed) waiting' result
+WritesAnswer held held' waiting waiting' (how.Document text) result = Writes held held' (waiting ++ (string_bytes text ++ line_feed)) waiting' result
 WritesAnswer held held' waiting waiting' how.NoMemory (Ok done) = ⊥
 WritesAnswer held held' waiting waiting' how.NoMemory (Err fault.Memory) = Appends held held' waiting
 WritesAnswer held held' waiting waiting' how.NoMemory (Err other) = (other ≡ fault.Write) × IsCutShort held held' waiting

@@ -12,11 +12,11 @@ use std::io::{Read, Write};
 
 /// Writes the document that answers a line; where there was no memory for it, what waits is written, and that is the fault.
 fn write_answer<W: Write>(
-    answered: &Answered,
+    answered: Answered,
     waiting: &mut Waiting,
     writer: &mut W,
 ) -> Result<(), ScriptFault>
-    ensures { WritesAnswer (W.contents writer.old) (W.contents writer.new) waiting.old.items waiting.new.items answered.now result }
+    ensures { WritesAnswer (W.contents writer.old) (W.contents writer.new) waiting.old.items waiting.new.items answered result }
 {
     match answered {
         Answered::Line => Ok(()),
@@ -42,7 +42,7 @@ fn run_lines<W: Write, A: Asks>(
     while let Some((line, after)) = first_line(rest) {
         make_room(&mut waiting, writer)?;
         let answered = run.answer(&mut waiting, line);
-        write_answer(&answered, &mut waiting, writer)?;
+        write_answer(answered, &mut waiting, writer)?;
         rest = after;
     }
     flush(&mut waiting, writer)

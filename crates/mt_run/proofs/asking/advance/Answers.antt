@@ -1,7 +1,6 @@
 -- The answer is that of the site, in the shard that it has found. An advance leaves the topology, and so what is kept.
 use Rattle.std.proofs.Common.{ap, ◌∙◌, subst, sym}
 use Rattle.mt_event.specs.Events.{refusal_from}
-use Rattle.mt_plain.specs.Events as plain
 use Rattle.mt_site.specs.Advance.{advanced_from}
 use Rattle.mt_site.specs.Shards.{shard_from}
 use Rattle.mt_workflow.specs.Workflows.{stream_name}

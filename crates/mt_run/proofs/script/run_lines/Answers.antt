@@ -1,5 +1,5 @@
 -- Line by line, each with room for its answer, and what waits at the end.
-use Rattle.std.proofs.Common.{◌≡◌, ◌∙◌, Err, Ok, length, ap, arith, refl, subst}
+use Rattle.std.proofs.Common.{◌≡◌, ◌∙◌, length, ap, arith, refl, subst}
 use Rattle.std.proofs.lemmas.Result.{err_from_is_err_and}
 use Rattle.mt_run.specs.LineRuns.{AddsLine}
 use Rattle.mt_run.proofs.LineRunLemmas.{ends, line_done, line_failed, none_done, room_failed, room_made}

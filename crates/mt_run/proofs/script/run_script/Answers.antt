@@ -1,5 +1,5 @@
 -- A script that isn't read has no output; one that is has that of its lines.
-use Rattle.std.proofs.Common.{◌≡◌, subst}
+use Rattle.std.proofs.Common.{◌≡◌, [], subst}
 use Rattle.std.proofs.lemmas.Result.{err_from_is_err_and}
 use Rattle.mt_plain.specs.Plain.{opening}
 use Rattle.mt_run.specs.LineRuns.{SoFar}

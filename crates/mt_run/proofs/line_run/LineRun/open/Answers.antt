@@ -1,5 +1,5 @@
 -- A run without lines.
-use Rattle.std.proofs.Common.{subst}
+use Rattle.std.proofs.Common.{[], subst}
 use Rattle.mt_run.specs.LineRuns.{SoFar}
 use Rattle.mt_run.proofs.LineRunLemmas.{begins}
 use Rattle.mt_run.proofs.line_run.LineRun.open.Goals as goal

@@ -1,5 +1,5 @@
 -- The first of the scope answers for all of them, or refuses; else no watcher has it.
-use Rattle.std.proofs.Common.{◌≡◌, ◌∙◌, Some, arith, ap, length, sym}
+use Rattle.std.proofs.Common.{◌∙◌, Some, arith, ap, length, sym}
 use Rattle.mt_watch.specs.declared.fault.WatchFault.{WatchFault}
 use Rattle.mt_watch.proofs.AskLemmas.{LacksBelow-skip, lacks_scope-from, watcher_at}
 use Rattle.mt_watch.proofs.ScopeLemmas.{same_scope_decides}

@@ -1,5 +1,5 @@
 -- The scope is found where it stands, and else no watcher has it.
-use Rattle.std.proofs.Common.{◌≡◌, ◌∙◌, arith, ap, length, sym}
+use Rattle.std.proofs.Common.{◌∙◌, arith, ap, length, sym}
 use Rattle.mt_watch.proofs.AskLemmas.{LacksBelow-skip, lacks_scope-from, watcher_at}
 use Rattle.mt_run.proofs.tellers.TellersAsks.has.Goals as goal
 
