@@ -1,8 +1,6 @@
 -- What a session is told and answers.
-use Rattle.std.specs.Prelude.{◌≡◌, ◌⊎◌, ⊤, ℕ, ◌<◌, ◌≤◌, List, [], ◌∷◌, ◌++◌, length, take, Ok, Err}
-use Rattle.std.specs.Str.{IsUtf8}
+use Rattle.std.specs.Prelude.{◌≡◌, ◌⊎◌, ⊤, ℕ, ◌<◌, ◌≤◌, List, [], ◌∷◌, ◌++◌, length, take, Ok}
 use Rattle.mt_model.specs.declared.entries.Scope.{Scope}
-use Rattle.mt_names.specs.declared.fault.NameFault.{NameFault}
 use Rattle.mt_plain.specs.Output.{watchers_of}
 use Rattle.mt_run.specs.Runs.{AsksDocument}
 use Rattle.mt.specs.declared.session.Session.{Session}
@@ -32,12 +30,15 @@ IsNotOpened text status.Names = IsNoList text
 IsNotOpened text status.Memory = ⊤
 IsNotOpened text other = ⊥
 
--- a line is answered: it and the bytes that are put are the session's last ones; or there is no room for a line of output, or none for the document
--- that the line asks for, and then so many bytes would be; or no memory for it. If it isn't answered, all is as it was
+-- a line is answered: it and the bytes that are put are what was said last; or there is no room for a line of output, or none for the document
+-- that the line asks for, and then so many bytes would be; or no memory for it. If it isn't answered, what was said stays
+abbrev pub TellsOf : (Says : List Scope → List (List ℕ) → List ℕ → Type 0) → (old : Session) → (line place place' : List ℕ) → Status × ℕ → Type 0
+TellsOf Says old line place place' (status.Done, count) = Says (scopes_of old) (old.said.lines ++ line ∷ []) (old.said.out ++ take count place') × (count ≤ length place')
+TellsOf Says old line place place' (status.Room, count) =
+    Says (scopes_of old) old.said.lines old.said.out × (place' ≡ place) × (((length place < longest_answer) × (count ≡ 0)) ⊎ (AsksDocument line × (length place < count)))
+TellsOf Says old line place place' (status.Memory, count) = Says (scopes_of old) old.said.lines old.said.out × (place' ≡ place) × (count ≡ 0) × AsksDocument line
+TellsOf Says old line place place' (other, count) = ⊥
+
+-- so a session becomes another
 abbrev pub Tells : (old new : Session) → (line place place' : List ℕ) → Status × ℕ → Type 0
-Tells old new line place place' (status.Done, count) =
-    HasSaid (scopes_of old) (old.said.lines ++ line ∷ []) (old.said.out ++ take count place') new × (count ≤ length place')
-Tells old new line place place' (status.Room, count) =
-    HasSaid (scopes_of old) old.said.lines old.said.out new × (place' ≡ place) × (((length place < longest_answer) × (count ≡ 0)) ⊎ (AsksDocument line × (length place < count)))
-Tells old new line place place' (status.Memory, count) = HasSaid (scopes_of old) old.said.lines old.said.out new × (place' ≡ place) × (count ≡ 0) × AsksDocument line
-Tells old new line place place' (other, count) = ⊥
+Tells old new line place place' told = TellsOf (λ scopes lines out. HasSaid scopes lines out new) old line place place' told

@@ -1,10 +1,10 @@
 //! Texts in a place that C lends.
-ghost use Rattle.std.specs.Prelude.{◌+◌, ◌++◌, ◌<◌, ◌^◌, length};
+ghost use Rattle.std.specs.Prelude.{◌+◌, ◌++◌, ◌<◌, ◌≤◌, ◌^◌, length};
 ghost use Rattle.mt.specs.Places.{Puts, PutsAnswer};
 
 use crate::status::Status;
 use mt_run::Answered;
-use mt_script::LineText;
+use mt_script::LONGEST_LINE;
 
 /// Puts two texts into a place, one behind the other, and says how many bytes they have. If there is no room for both, none is put.
 pub fn put(first: &[u8], second: &[u8], place: &mut [u8]) -> (Status, usize)
@@ -23,8 +23,9 @@ pub fn put(first: &[u8], second: &[u8], place: &mut [u8]) -> (Status, usize)
 }
 
 /// Puts what answers a line into a place: what waits, or a document with its line feed, or nothing.
-pub fn put_answer(answered: Answered, waiting: &LineText, place: &mut [u8]) -> (Status, usize)
-    ensures { PutsAnswer answered waiting.now.items place.old place.new result }
+pub fn put_answer(answered: Answered, waiting: &[u8], place: &mut [u8]) -> (Status, usize)
+    requires { length waiting.now ≤ LONGEST_LINE }
+    ensures { PutsAnswer answered waiting.now place.old place.new result }
 {
     match answered {
         Answered::Line => put(waiting, b"", place),

@@ -55,7 +55,7 @@ impl Session {
         self.waiting.clear();
         let answered = self.run.answer(&mut self.waiting, line);
         let (status, count) = put_answer(answered, &self.waiting, place);
-        if status == Status::Done {
+        if let Status::Done = status {
             self.said = self.said.then(&Told {
                 line,
                 text: &place[..count],

@@ -1,5 +1,5 @@
 -- The parts that are words are kept, as far as there is room.
-use Rattle.std.proofs.Common.{◌≡◌, ◌+◌, ◌<◌, ◌==◌, Bool, true, false, List, ℕ, [], ◌∷◌, ◌++◌, length, map, take, Bor, not, sym, ap, ◌∙◌, arith, lit<, subst}
+use Rattle.std.proofs.Common.{◌≡◌, ◌<◌, ◌==◌, false, List, ℕ, [], ◌∷◌, ◌++◌, length, map, take, Bor, sym, ap, ◌∙◌, arith, lit<}
 use Rattle.std.proofs.lemmas.Bool.{eqb-false, eqb-true}
 use Rattle.std.proofs.lemmas.Iterator.Splits.{YieldsList-from_str_split}
 use Rattle.std.proofs.lemmas.Iterator.Consumers.{YieldsList-at, YieldsList-end}

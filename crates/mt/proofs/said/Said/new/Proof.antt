@@ -1,5 +1,5 @@
 -- `new` makes the empty struct, with nothing said.
-use Rattle.std.proofs.Common.{[], ◌∷◌, Some, refl}
+use Rattle.std.proofs.Common.{[], ◌∷◌, refl}
 use seplogic.Ra.Ura.{Ura}
 use mir.Syntax.{Fn}
 use mir.Val.{Val}
