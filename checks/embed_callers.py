@@ -15,7 +15,7 @@ HEADERS = TOP / "embed"
 COMPILE = ("gcc", "-std=gnu11", "-g", "-O1", "-Wall", "-Wextra", "-Werror", f"-I{HEADERS}")
 HEAP = tuple(f"-Wl,--wrap={it}" for it in ("malloc", "realloc", "free"))
 SPOILT = tuple(f"-Wl,--wrap={it}" for it in ("mt_command", "mt_run", "mt_close"))
-ADDRESSES, THREADS = "-fsanitize=address,undefined", "-fsanitize=thread"
+ADDRESSES = "-fsanitize=address,undefined"
 MEMCHECK = ("valgrind", "--quiet", "--leak-check=full", "--error-exitcode=9")
 HELGRIND = ("valgrind", "--quiet", "--tool=helgrind", "--error-exitcode=9")
 COUNTED = re.compile(r"^(\d+) passed, (\d+) failed\n\Z", re.M)

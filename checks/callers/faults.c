@@ -21,12 +21,19 @@ enum {
     READ_BEYOND,   /* a byte behind the line is read */
     WRITE_BEYOND,  /* a byte behind the room is written */
     SHARED,        /* threads count in one place */
+    DEEP,          /* a call takes much of the stack */
     STAYS_OPEN,    /* a session that is closed still says that it is open */
     LOOSE_ROOM     /* a room of one byte too few is taken for enough */
 };
 
 static long lines;
 static void *volatile lost;
+
+/* Takes as much of the stack as mt.h asks for. */
+static void go_deep(void) {
+    volatile char place[128 << 10];
+    for (size_t at = 0; at < sizeof place; at += 4096) place[at] = 0;
+}
 
 static int32_t spoilt(int32_t status, struct mt_session *session, const char *line, size_t length, char *answer, size_t room, size_t *written) {
     static char own[1 << 20];
@@ -49,6 +56,7 @@ int32_t __wrap_mt_command(struct mt_session *session, const char *line, size_t l
     if (FAULT == LEAK) lost = malloc(8);
     if (FAULT == READ_BEYOND && line[length] == 1) return MT_CLOSED;
     if (FAULT == SHARED) lines++;
+    if (FAULT == DEEP) go_deep();
     if (FAULT == LOOSE_ROOM && room == MT_ANSWER - 1) room++;
     int32_t status = __real_mt_command(session, line, length, answer, room, written);
     return spoilt(status, session, line, length, answer, room, written);

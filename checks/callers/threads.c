@@ -4,13 +4,8 @@
 
 #include <pthread.h>
 
-#ifdef __SANITIZE_THREAD__
-#define STACK (1 << 20)
-#else
-#define STACK (128 << 10) /* what mt.h says of a call's stack; this thread's own functions and the system's part are in it */
-#endif
-
-enum { MOST_THREADS = 4, MOST_OUTPUT = 1 << 18 };
+/* The stack is what mt.h says of a call's; this program's own functions and the system's part are in it. */
+enum { MOST_THREADS = 8, MOST_OUTPUT = 1 << 18, STACK = 128 << 10 };
 
 /* What a thread does, and what it finds. */
 struct work {
