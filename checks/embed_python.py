@@ -72,7 +72,7 @@ def sessions() -> Iterator[Try]:
     yield "a line that is two", raises_as(ValueError, lambda: session.command("# a\nkeyspace b"))
     yield "a line feed too many", raises_as(ValueError, lambda: session.command("keyspace b\n\n"))
     yield "a line of other bytes", session.command("keyspace \udcff") == "refused X1 BadLine" and session.command("keyspace é\0") == "refused X1 BadLine"
-    yield "no text at all", raises_as(Exception, lambda: session.command(None)) and session.command("keyspace a") == "refused F30 Exists"
+    yield "no text at all", all(raises_as(TypeError, lambda: session.command(it)) for it in (None, 1, [b"dump"])) and session.command("keyspace a") == "refused F30 Exists"
     for number in range(200):
         session.command(f"table a a_table_with_a_long_name_{number}")
     yield "a long document", session.command("dump").count("a_table_with_a_long_name") == 200 and session.command("get a.t 1") == "none"
@@ -100,6 +100,7 @@ def keyspaces() -> Iterator[Try]:
         yield f"keyspaces {names}", raises(mt.Status.NAMES, lambda: mt.Session(names)) and raises(mt.Status.NAMES, lambda: mt.run("", names))
     yield "31 of them", mt.Session(f"k{it}" for it in range(31)).command("rules") == '{"rules":[]}'
     yield "one text for a list", raises_as(TypeError, lambda: mt.Session("commerce")) and raises_as(TypeError, lambda: mt.run("", "commerce"))
+    yield "keyspaces that are no texts", raises_as(TypeError, lambda: mt.Session([1])) and raises_as(TypeError, lambda: mt.run(None))
     yield "a script too long", raises(mt.Status.TOO_LONG, lambda: mt.run(b"#" * 1_048_577)) and mt.run(b"#" * 1_048_576) == ""
     yield "the version", mt.version() == (1, 0, 0)
 

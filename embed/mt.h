@@ -68,8 +68,9 @@ int32_t mt_open(struct mt_session *session, const char *keyspaces, size_t length
  * *written says how many bytes it has. A line that is refused is answered too, with MT_DONE.
  *
  * MT_DONE; MT_MEMORY, MT_ROOM, MT_CLOSED. After MT_ROOM *written is the room that the document takes, or 0 if room is less than
- * MT_ANSWER; after MT_MEMORY and MT_CLOSED it is 0. A line that finds no memory may also be done and answered as docs/SCRIPT.md
- * says: refused F0 Memory, which did nothing, an advance that was cut short, a switch that was abandoned or stopped. */
+ * MT_ANSWER; after MT_MEMORY and MT_CLOSED it is 0. A document that finds no memory says MT_MEMORY. Any other line is then answered, with
+ * MT_DONE, as docs/SCRIPT.md says: refused F0 Memory, which did nothing, an advance that was cut short, a switch that was abandoned or
+ * stopped. */
 int32_t mt_command(struct mt_session *session, const char *line, size_t length, char *answer, size_t room, size_t *written);
 
 /* Closes a session and gives its memory back; does nothing if it isn't open. It may be opened again. */

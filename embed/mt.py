@@ -106,17 +106,21 @@ def checked(status: int) -> None:
 
 def bytes_of(text: str | bytes) -> bytes:
     """A text as the library reads it. Python's surrogates stand for bytes that are no UTF-8."""
-    return text.encode("utf-8", "surrogateescape") if isinstance(text, str) else text
+    if isinstance(text, str):
+        return text.encode("utf-8", "surrogateescape")
+    if isinstance(text, bytes):
+        return text
+    raise TypeError(f"a text or bytes are wanted, not {type(text).__name__}")
 
 
 def words_of(keyspaces: Iterable[str]) -> bytes:
     """Names of keyspaces as C gives them: words with spaces between. What would be none of them, or two, is no name."""
     if isinstance(keyspaces, (str, bytes)):
         raise TypeError("the keyspaces are a list of names, not one text")
-    names = list(keyspaces)
-    if not all(name and " " not in name for name in names):
+    names = [bytes_of(name) for name in keyspaces]
+    if not all(name and b" " not in name for name in names):
         raise Error(Status.NAMES)
-    return bytes_of(" ".join(names))
+    return b" ".join(names)
 
 
 def line_of(text: str | bytes) -> bytes:
