@@ -56,9 +56,17 @@ static int advances_on(struct mt_session *session, struct text line, struct text
     return events + more_events == all_events && rows + more_rows == all_rows;
 }
 
-/* Whether an answer says that the line wanted memory: itself, or a watcher. */
+static int begins_one(struct text said, const char *const *starts, size_t count) {
+    for (size_t it = 0; it < count; it++) {
+        if (begins(said, starts[it])) return 1;
+    }
+    return 0;
+}
+
+/* Whether an answer says that the line did nothing but turns of streams, as it wanted memory, or a watcher did. */
 static int is_refused_for_memory(struct text said) {
-    return is_same(said, text_of("refused F0 Memory\n")) || is_same(said, text_of("refused F23 WatcherRefused\n")) || begins(said, "abandoned F0 ") || begins(said, "abandoned F23 ");
+    static const char *const starts[] = {"refused F0 Memory", "refused F23 WatcherRefused", "abandoned F0 Memory", "abandoned F23 WatcherRefused"};
+    return begins_one(said, starts, sizeof starts / sizeof *starts);
 }
 
 /* Whether a line is answered as it is with memory, or what it left is done with memory. */
@@ -97,6 +105,14 @@ static int plays(struct script script, long one, long all) {
     return so && blocks == before;
 }
 
+/* Whether the first answer of an output that isn't as ever says that its line wanted memory. */
+static int wanted_memory(struct text output, struct text want) {
+    static const char *const parts[] = {"stopped F0 Memory", "stopped F23 WatcherRefused", "events "};
+    struct text line = nothing, as_ever = nothing;
+    while (output.length && is_same(line, as_ever)) line = next_line(&output), as_ever = next_line(&want);
+    return is_refused_for_memory(line) || begins_one(line, parts, sizeof parts / sizeof *parts);
+}
+
 /* Runs a script as a whole once: it is done as ever, or as far as memory was there, or not at all, and then nothing is written. */
 static int runs_whole(struct script script, struct text want, long one, long all) {
     long before = blocks;
@@ -106,9 +122,8 @@ static int runs_whole(struct script script, struct text want, long one, long all
     one_fails = all_fail = 0;
     if (blocks != before) return 0;
     if (status == MT_MEMORY) return !written && answer[0] == '?';
-    answer[written] = 0;
-    int is_as_ever = is_same((struct text){answer, written}, want);
-    return status == MT_DONE && (is_as_ever || strstr(answer, "F0 Memory\n") || strstr(answer, "F23 WatcherRefused\n") || strstr(answer, "stopped F") || strstr(answer, "events "));
+    struct text output = {answer, written};
+    return status == MT_DONE && (is_same(output, want) || wanted_memory(output, want));
 }
 
 /* Notes what each line is answered with memory; gives how many allocations that takes. */

@@ -71,7 +71,8 @@ static const char *names(int count) {
 }
 
 static void keyspaces(void) {
-    static const char *const none[] = {"a.b", "a b!", "-a", "a\tb", "a,b", "\xc3\xa4", "\xff", "a\n", "12345678901234567890123456789012345678901234567890123456789012345"};
+    static const char *const none[] = {"a.b", "a b!", "-a", "a\tb", "a,b", "\xc3\xa4", "\xff", "a\n",
+                                       "12345678901234567890123456789012345678901234567890123456789012345"};
     struct mt_session session = MT_NONE;
     char output[64];
     size_t count;
