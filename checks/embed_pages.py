@@ -1,4 +1,4 @@
-"""The programs of docs/EMBED.md: each is compiled or run as the page says, and prints what the block behind it has."""
+"""The programs of docs/EMBED.md: each is compiled or run as the page says, that in C as C++ too, and prints what the block behind it has."""
 from __future__ import annotations
 
 import os
@@ -14,12 +14,16 @@ PAGE = TOP / "docs/EMBED.md"
 PROGRAM = re.compile(r"^```(c|python)\n(.*?)^```\n.*?^```text\n(.*?)^```$", re.M | re.S)
 
 
-def in_c(text: str, of: pathlib.Path, room: pathlib.Path) -> str:
-    """What a program in C prints."""
-    source, program = room / "page.c", room / "page"
-    source.write_text(text)
-    subprocess.run(["gcc", "-Wall", "-Wextra", "-Werror", f"-I{TOP / 'embed'}", "-o", program, source, of / "libmt.a"], check=True)
-    return subprocess.run([program], stdout=subprocess.PIPE, text=True).stdout
+def compiled(name: str, *compiler: str) -> Callable[[str, pathlib.Path, pathlib.Path], str]:
+    """How it is found what a program prints that such a compiler makes."""
+
+    def printed(text: str, of: pathlib.Path, room: pathlib.Path) -> str:
+        source, program = room / name, room / f"{name}.out"
+        source.write_text(text)
+        subprocess.run([*compiler, "-Wall", "-Wextra", "-Werror", f"-I{TOP / 'embed'}", "-o", program, source, of / "libmt.a"], check=True)
+        return subprocess.run([program], stdout=subprocess.PIPE, text=True).stdout
+
+    return printed
 
 
 def in_python(text: str, of: pathlib.Path, room: pathlib.Path) -> str:
@@ -28,7 +32,7 @@ def in_python(text: str, of: pathlib.Path, room: pathlib.Path) -> str:
     return subprocess.run([sys.executable, "-c", text], env=variables, cwd=room, stdout=subprocess.PIPE, text=True).stdout
 
 
-PRINTS: dict[str, Callable[[str, pathlib.Path, pathlib.Path], str]] = {"c": in_c, "python": in_python}
+PRINTS = {"c": [compiled("page.c", "gcc"), compiled("page.cc", "g++")], "python": [in_python]}
 
 
 def tries(of: pathlib.Path, room: pathlib.Path) -> Iterator[tuple[str, Callable[[], bool]]]:
@@ -36,4 +40,4 @@ def tries(of: pathlib.Path, room: pathlib.Path) -> Iterator[tuple[str, Callable[
     found = PROGRAM.findall(PAGE.read_text())
     yield "docs/EMBED.md has a program in C and one in Python", lambda: sorted(kind for kind, _, _ in found) == sorted(PRINTS)
     for kind, text, want in found:
-        yield f"the program in {kind} of docs/EMBED.md", lambda kind=kind, text=text, want=want: PRINTS[kind](text, of, room) == want
+        yield f"the program in {kind} of docs/EMBED.md", lambda kind=kind, text=text, want=want: {it(text, of, room) for it in PRINTS[kind]} == {want}
