@@ -8,9 +8,9 @@ import re
 
 import unproved
 
+ARCHIVE, SHARED = "libmt.a", "libmt.so"
 CRATE, MODULE = "mt", "mt::exports"
 EXPORTS = ["mt_open", "mt_command", "mt_close", "mt_run"]
-ARCHIVE, SHARED = "libmt.a", "libmt.so"
 
 
 def as_library(lines):
