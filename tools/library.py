@@ -1,12 +1,14 @@
-"""The library for other programs, of these sources, without running the proofs: the module of the crate `mt`, whose functions C calls.
+"""The library for other programs: libmt.a, which a C program links, and libmt.so, which one loads. docs/EMBED.md says how both are used.
 
-It is the same code as that of a proved build, but nobody has proved it (unproved.py says how it is made). `rt lib` in crates/mt proves it, and
-makes out/libmt.a there.
+They are made of the archive that `rt lib` leaves in crates/mt where it has proved that crate, or of the module of the same sources without running
+the proofs (unproved.py says how that is made). Either way the parts of the kit's C that it calls are put into the archive, so that one file is
+linked, and the shared object shows its exports alone.
 """
 import re
 
 import unproved
 
+ARCHIVE, SHARED = "libmt.a", "libmt.so"
 CRATE, MODULE = "mt", "mt::exports"
 EXPORTS = ["mt_version", "mt_open", "mt_command", "mt_close", "mt_run"]
 
@@ -33,3 +35,27 @@ def module_of(top, own, room):
 def flags_of(room):
     """The kit's flags for such a module."""
     return [it for it in (room / "flags").read_text().splitlines() if it.startswith("-") and not it.startswith((*unproved.NOT_PASSED_ON, "-fPIE"))]
+
+
+def link(own, room, of):
+    """Makes the archive and the shared object in a room, of an object file or of an archive."""
+    tools, archive = own / "toolchain/bin", room / ARCHIVE
+    unproved.done("there is no archive", [tools / "llvm-ar", "qcsL", archive, of, own / "c/liblibc_c.a"], room)
+    (room / "exports").write_text(f"{{ global: {' '.join(f'{it};' for it in EXPORTS)} local: *; }};\n")
+    # no name is left open, none of the exports is missing, and a program's own function of such a name doesn't take its place in here
+    words = ["-shared", "-Bsymbolic", "-soname", SHARED, "-z", "defs", f"--version-script={room / 'exports'}", "--no-undefined-version"]
+    words += ["--whole-archive", archive, "--no-whole-archive", own / "toolchain/lib/libc.so.6", "-o", room / SHARED]
+    unproved.done("there is no shared object", [tools / "ld.lld", *words], room)
+
+
+def build_in(room, top, stage):
+    """Makes both of the sources in a folder without running the proofs, in a room that is empty; each stage is told as it begins."""
+    own, compiled = unproved.kit(), room / "mt.o"
+    stage("1 of 3: compiling the sources")
+    lines = module_of(top, own, room)
+    stage("2 of 3: compiling the library")
+    (room / "library.ll").write_text("\n".join(lines) + "\n")
+    words = [own / "toolchain/bin/clang", f"--sysroot={own}/toolchain", *flags_of(room), "-w", "-O3", "-fPIC", "-c", "-x", "ir", room / "library.ll", "-o", compiled]
+    unproved.done("the library isn't compiled", words, room)
+    stage("3 of 3: making the library")
+    link(own, room, compiled)
