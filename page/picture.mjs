@@ -23,10 +23,11 @@ const CAPTION = "Time runs from left to right. Each column is a line of the scri
 /**
  * The facts of a script as a picture.
  * @param {Facts} facts
+ * @param {number} [mostStretch] how many times as wide as liked a column is at most, where there is room: a picture that grows isn't all stretched
  * @returns {string} an SVG element, 1,230 pixels wide if its columns have room there
  */
-export function picture(facts) {
-  const xs = columnEdges(facts);
+export function picture(facts, mostStretch = Infinity) {
+  const xs = columnEdges(facts, mostStretch);
   const width = Math.max(WIDTH, Math.ceil(xs[xs.length - 1] + MARGIN));
   const head = headDrawn(facts);
   const panels = stacked(head.bottom, panelsOf(facts, xs));
@@ -52,14 +53,15 @@ export function picture(facts) {
 /**
  * Where the columns begin, and the last one ends. They fill the width, and go past it only if all are as narrow as can be.
  * @param {Facts} facts
+ * @param {number} mostStretch
  */
-function columnEdges(facts) {
+function columnEdges(facts, mostStretch) {
   const kinds = facts.columns.map((column) => widthsOf(facts, column));
   const room = WIDTH - LEFT - MARGIN;
   const least = kinds.reduce((sum, [narrow]) => sum + narrow, 0);
   const liked = kinds.reduce((sum, [, wide]) => sum + wide, 0);
   const share = Math.min(Math.max((room - least) / Math.max(liked - least, 1), 0), 1);
-  const stretch = liked < room ? room / liked : 1;
+  const stretch = liked < room ? Math.min(room / liked, mostStretch) : 1;
   const edges = [LEFT];
   kinds.forEach(([narrow, wide], place) => edges.push(edges[place] + (narrow + (wide - narrow) * share) * stretch));
   return edges;
