@@ -13,7 +13,7 @@ from collections.abc import Iterator
 from typing import Any
 
 BROWSER = "chromium"
-FLAGS = ["--headless=new", "--no-sandbox", "--disable-gpu", "--no-first-run", "--disable-background-networking", "--disable-extensions", "--mute-audio"]
+FLAGS = ["--headless=new", "--no-sandbox", "--disable-gpu", "--no-first-run", "--disable-background-networking", "--disable-extensions", "--mute-audio", "--hide-scrollbars"]
 Found = dict[str, Any]
 
 
@@ -101,10 +101,10 @@ class Tab:
         """Waits, from one frame to the next, until an expression is true, and gives its value."""
         return self.value(f"(async () => {{ for (;;) {{ const it = {expression}; if (it) return it; await new Promise((next) => setTimeout(next, 5)); }} }})()")
 
-    def press(self, key: str, code: str = "", number: int = 0, modifiers: int = 0, text: str = "") -> None:
-        """Presses a key and lets it go: its name, its place on the keyboard, its number; with 1 for Alt, 2 for Ctrl, 8 for Shift."""
+    def press(self, key: str, code: str = "", number: int = 0, modifiers: int = 0, text: str = "", **more: object) -> None:
+        """Presses a key and lets it go: its name, its place on the keyboard, its number; with 1 for Alt, 2 for Ctrl, 8 for Shift; the text that it types."""
         words = {"key": key, "code": code or key, "windowsVirtualKeyCode": number, "modifiers": modifiers}
-        self.call("Input.dispatchKeyEvent", type="keyDown" if text else "rawKeyDown", **words, **({"text": text} if text else {}))
+        self.call("Input.dispatchKeyEvent", type="keyDown" if text else "rawKeyDown", **words, **({"text": text} if text else {}), **more)
         self.call("Input.dispatchKeyEvent", type="keyUp", **words)
 
     def screen(self, width: int, height: int, scheme: str) -> None:

@@ -5,6 +5,7 @@ import contextlib
 import dataclasses
 import json
 import pathlib
+import re
 from collections.abc import Iterator, Sequence
 from typing import Any
 
@@ -17,6 +18,7 @@ from mt_runs.program import Program
 from mt_runs.refusals import read_script_page
 
 SCRIPT_PAGE = read_script_page()
+NOT_SHOWN = re.compile("[\x00-\x08\x0b\x0c\x0e-\x1f\ufffe\uffff]")  # what a page shows a mark for
 ALT, CTRL, SHIFT = 1, 2, 8
 # The script that stands there, whole and by its lines with their answers, and what is drawn.
 SEEN = """(() => {
@@ -42,6 +44,7 @@ class Opened:
     path: pathlib.Path
     program: pathlib.Path
     folder: pathlib.Path
+    known: dict[str, tuple[list[str], Any]] = dataclasses.field(default_factory=dict)
 
     def open(self, fragment: str = "", address: str = "") -> None:
         """Opens the page anew, and waits until it has begun."""
@@ -90,15 +93,21 @@ class Opened:
     def differences(self, script: Script, name: str = "") -> list[str]:
         """Where what stands in the page isn't what the program and tools/picture say of a script."""
         seen = self.seen()
-        program = Program(self.program, script.watchers)
-        answers = program.answers(script.lines)
-        wanted = [[line.removesuffix("\r"), answer] for line, answer in zip(script.lines, answers)]
+        answers, facts = self.wanted(script)
+        wanted = [[NOT_SHOWN.sub("\ufffd", line.removesuffix("\r")), answer] for line, answer in zip(script.lines, answers)]
         found = [f"{name}the answers are {first_difference(seen['told'], wanted)}"] * (seen["told"] != wanted)
-        facts = facts_of(program, script)
         got = json.loads(seen["facts"]) if seen["facts"] else None
-        found += [f"{name}the facts are {first_difference(got, facts)}"] * (json.dumps(got) != json.dumps(facts))
+        found += [f"{name}the facts are {first_difference(got, facts)}"] * (got != facts)
         drawn = len(facts["columns"]) if facts else 0
         return found + [f"{name}{seen['columns']} columns are drawn, of {drawn}"] * (seen["columns"] != drawn)
+
+    def wanted(self, script: Script) -> tuple[list[str], Any]:
+        """The answers of the program to a script, and its facts by tools/picture; asked for once."""
+        key = repr(script)
+        if key not in self.known:
+            program = Program(self.program, script.watchers)
+            self.known[key] = program.answers(script.lines), facts_of(program, script)
+        return self.known[key]
 
     def other(self, path: pathlib.Path) -> Opened:
         """The page of another file, in the same tab."""
@@ -115,7 +124,7 @@ def facts_of(program: Program, script: Script) -> Any:
 
 def first_difference(got: Any, wanted: Any, path: str = "") -> str:
     """Where two values begin to differ."""
-    if isinstance(got, dict) and isinstance(wanted, dict) and list(got) == list(wanted):
+    if isinstance(got, dict) and isinstance(wanted, dict) and sorted(got) == sorted(wanted):
         return next((first_difference(got[key], wanted[key], f"{path}.{key}") for key in got if got[key] != wanted[key]), "the same")
     if isinstance(got, list) and isinstance(wanted, list) and len(got) == len(wanted):
         return next((first_difference(one, other, f"{path}[{at}]") for at, (one, other) in enumerate(zip(got, wanted)) if one != other), "the same")

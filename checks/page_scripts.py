@@ -123,10 +123,7 @@ def refusals(page: Opened) -> Cases:
 def type_text(page: Opened, text: str) -> None:
     """Types a text, key by key."""
     for sign in text:
-        if sign == "\n":
-            page.tab.press("Enter", "Enter", 13, text="\r")
-        else:
-            page.tab.call("Input.dispatchKeyEvent", type="char", text=sign)
+        page.tab.press(*(("Enter", "Enter", 13, 0, "\r") if sign == "\n" else (sign, "", 0, 0, sign)))
 
 
 def tab_to(page: Opened, name: str, shift: int = 0) -> list[str]:
@@ -145,8 +142,7 @@ def by_keys(page: Opened) -> Cases:
     passed = tab_to(page, "script")
     wanted = ["example", "watched", "all", "back", "position", "share", "save", "script"]
     yield "Tab goes from one control to the next", [] if passed == wanted else [str(passed)]
-    page.tab.press("a", "KeyA", 65, CTRL)
-    page.tab.call("Input.dispatchKeyEvent", type="rawKeyDown", key="a", code="KeyA", windowsVirtualKeyCode=65, modifiers=CTRL, commands=["selectAll"])
+    page.tab.press("a", "KeyA", 65, CTRL, commands=["selectAll"])
     type_text(page, THERE_AND_BACK)
     yield "a script that is typed", page.differences(script)
     for _ in range(3):
@@ -183,13 +179,13 @@ def limits(page: Opened) -> Cases:
     """Each limit of the page, and one past it."""
     page.open()
     move = "keyspace a\nkeyspace b\ntable a t\ncreate mv a b t\n"
-    cases = [("2,000 lines", "#\n" * 1995 + move + "show mv"), ("a script of 1,000 lines that has 400 columns", move + "show mv\n" * 396 + "get t 1\n" * 600)]
+    cases = [("2,000 lines", "#\n" * 1995 + move + "show mv\n"), ("a script of 1,000 lines that has 400 columns", move + "show mv\n" * 397 + "get t 1\n" * 599)]
     for name, text in cases:
         page.take(text)
         yield name, page.differences(page.read(text))
-    page.take(move + "show mv\n" * 397)
-    yield "401 columns", [] if "400 can be drawn" in page.seen()["picture"] and len(page.seen()["told"]) == 401 else [page.seen()["picture"]]
-    page.take("#\n" * 2000)
+    page.take(move + "show mv\n" * 399)
+    yield "401 columns", [] if "400 can be drawn" in page.seen()["picture"] and len(page.seen()["told"]) == 403 else [page.seen()["picture"]]
+    page.take("#\n" * 2001)
     yield "2,001 lines", told_as(page, "2,001 lines, and this page runs 2,000 at most")
     page.take("#" * 1_048_576)
     yield "1,048,576 bytes", [page.seen()["problem"]] if page.seen()["problem"] else []

@@ -107,10 +107,10 @@ export function stateBehind(history, column) {
  */
 function servedFacts({ reads, topology }, place, byName) {
   /** @type {import("./facts.mjs").Served} */
-  const found = {};
+  const found = Object.create(null); // a table may have the name of what other objects have
   for (const { read, answer } of reads[place].filter((it) => it.read.byName === byName)) {
     const [outer, inner] = byName ? [read.table, read.asked] : [read.asked, read.table];
-    const shards = ((found[outer] ??= {})[inner] ??= {});
+    const shards = ((found[outer] ??= Object.create(null))[inner] ??= Object.create(null));
     shards[read.shard] = servedBy(read, answer, topology);
   }
   return found;

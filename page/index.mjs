@@ -8,7 +8,8 @@ import { MOST_ROWS, Superseded, answersTo, askingInTurns, beginningOf } from "./
 import { MOST_BYTES, readScript } from "./script.mjs";
 import { lineTold, sheetRows } from "./sheet.mjs";
 import { counted } from "./facts.mjs";
-import { picture } from "./picture.mjs";
+import { framed, pinLabels, showLastColumn } from "./framed.mjs";
+import { escaped } from "./svg.mjs";
 import { accountTable, linesTable } from "./tables.mjs";
 
 /**
@@ -16,7 +17,6 @@ import { accountTable, linesTable } from "./tables.mjs";
  * @typedef {{name: string, at: number | null, row: number | null}} Standing
  */
 
-const MOST_STRETCH = 2.2;
 const FIRST_EXAMPLE = "two_shards";
 const NO_MOVE = "No move has begun yet. The picture begins with the first create that is answered ok.";
 
@@ -35,6 +35,9 @@ let module = null;
 let standing = { name: FIRST_EXAMPLE, at: null, row: null };
 let known = nothingKnown();
 let turn = 0; // of drawing, counted: an older one ends when a newer begins
+/** @type {import("./facts.mjs").Facts | null} */
+let drawn = null;
+const narrow = matchMedia("(max-width: 700px)");
 
 /**
  * The element of a name; there is one, by index.html.
@@ -58,7 +61,7 @@ function scriptNow() {
  * @param {string} text
  */
 function tooLong(text) {
-  const rows = text.split("\n").length;
+  const rows = text.replace(/\n$/, "").split("\n").length;
   if (rows > MOST_ROWS) return `The script has ${counted(rows, "line")}, and this page runs ${MOST_ROWS.toLocaleString("en")} at most. The command mt run takes more.`;
   const bytes = new TextEncoder().encode(text).length;
   return bytes > MOST_BYTES ? `The script has ${counted(bytes, "byte")}, and mt reads ${MOST_BYTES.toLocaleString("en")} at most.` : "";
@@ -169,20 +172,26 @@ async function showPicture(script, answers) {
 
 /** @param {import("./facts.mjs").Facts | null} facts @param {string} instead */
 function showDrawing(facts, instead) {
-  const box = byId("picture");
-  const wasAtEnd = box.scrollLeft + box.clientWidth >= box.scrollWidth - 2;
-  box.removeAttribute("aria-busy");
-  box.innerHTML = facts ? picture(facts, MOST_STRETCH) : `<p class="none">${instead}</p>`;
+  drawn = facts;
+  byId("picture").removeAttribute("aria-busy");
   byId("account").innerHTML = facts ? accountTable(facts) : "";
   byId("facts").textContent = facts ? JSON.stringify(facts) : "";
-  if (wasAtEnd) showLastColumn(box);
+  frame(`<p class="none">${escaped(instead)}</p>`);
 }
 
-/** @param {HTMLElement} box */
-function showLastColumn(box) {
-  const columns = box.querySelectorAll(".column");
-  const last = columns[columns.length - 1];
-  if (last) box.scrollLeft += last.getBoundingClientRect().right - box.getBoundingClientRect().right + 24;
+/**
+ * Shows the drawing, or else some words in its place.
+ * @param {string} instead
+ */
+function frame(instead) {
+  const box = byId("picture");
+  const wasAtEnd = box.scrollLeft + box.clientWidth >= box.scrollWidth - 2;
+  const { head, drawing, foot } = drawn ? framed(drawn, narrow.matches ? box.clientWidth : null) : { head: "", drawing: instead, foot: "" };
+  byId("head").innerHTML = head;
+  box.innerHTML = drawing;
+  byId("meanings").innerHTML = foot;
+  pinLabels(box);
+  if (wasAtEnd) showLastColumn(box);
 }
 
 // ---- what is asked for
@@ -305,6 +314,7 @@ function listen() {
   document.addEventListener("selectionchange", tellCaret);
   document.addEventListener("keydown", pressed);
   window.addEventListener("hashchange", takeLink);
+  narrow.addEventListener("change", () => drawn && frame(""));
 }
 
 // ---- the beginning

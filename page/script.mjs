@@ -11,6 +11,7 @@ import { wordsIn } from "./facts.mjs";
 /** The bytes that a script may have, and the keyspaces that a run may watch. */
 export const MOST_BYTES = 1048576;
 const MOST_WATCHERS = 31;
+const KEYSPACE_NAME = /^[A-Za-z0-9_][A-Za-z0-9_-]{0,63}$/;
 const RUN_WORDS = /\bmt run\b([^<\n]*)/;
 
 /**
@@ -92,6 +93,6 @@ function paragraphsOf(block) {
 function watchersOf(text, lines) {
   const told = text.split("\n").filter((line) => line.startsWith("#")).map((line) => RUN_WORDS.exec(line)).find((found) => found);
   if (told) return told[1].split(/\s+/).filter((word) => word !== "");
-  const made = lines.map(wordsOfLine).filter((words) => words[0] === "keyspace" && [2, 3].includes(words.length));
+  const made = lines.map(wordsOfLine).filter((words) => words[0] === "keyspace" && [2, 3].includes(words.length) && KEYSPACE_NAME.test(words[1]));
   return [...new Set(made.map((words) => words[1]))].slice(0, MOST_WATCHERS);
 }
