@@ -5,7 +5,7 @@ import pathlib
 from collections.abc import Iterator
 
 from known_scripts import EXAMPLES
-from page_opened import Opened, opened, tab_of
+from page_opened import Opened, opened
 
 Cases = Iterator[tuple[str, list[str]]]
 WIDTHS = (1280, 390)
@@ -120,9 +120,6 @@ def without_memory64(path: pathlib.Path, folder: pathlib.Path) -> Cases:
         with opened(path, path, folder) as page:
             page.tab.call("Page.addScriptToEvaluateOnNewDocument", source=script)
             yield f"a browser {name}", disabled(page)
-    with opened(path, path, folder, "--js-flags=--no-experimental-wasm-memory64") as page:
-        page.tab = tab_of(page.tab.browser)
-        yield "a browser whose 64-bit memory is switched off", disabled(page)
 
 
 def disabled(page: Opened) -> list[str]:

@@ -35,6 +35,8 @@ let module = null;
 let standing = { name: FIRST_EXAMPLE, at: null, row: null };
 let known = nothingKnown();
 let turn = 0; // of drawing, counted: an older one ends when a newer begins
+/** @type {{script: import("./script.mjs").Script, answers: string[]}} */
+let asked = { script: readScript("", []), answers: [] };
 /** @type {import("./facts.mjs").Facts | null} */
 let drawn = null;
 const narrow = matchMedia("(max-width: 700px)");
@@ -156,7 +158,7 @@ function button(name) {
 async function showPicture(script, answers) {
   turn += 1;
   const mine = turn;
-  byId("tables").innerHTML = linesTable(/** @type {any} */ ({ lines: linesTold(script, answers), refusals: refusalsOfAnswers(answers, refusals) }));
+  asked = { script, answers };
   if (!module || answers.length !== script.lines.length) return showDrawing(null, module ? "" : "The controller isn't there.");
   known = stillKnown(known, script);
   byId("picture").setAttribute("aria-busy", "true");
@@ -174,9 +176,17 @@ async function showPicture(script, answers) {
 function showDrawing(facts, instead) {
   drawn = facts;
   byId("picture").removeAttribute("aria-busy");
-  byId("account").innerHTML = facts ? accountTable(facts) : "";
   byId("facts").textContent = facts ? JSON.stringify(facts) : "";
   frame(`<p class="none">${escaped(instead)}</p>`);
+  showTables();
+}
+
+/** The same in words, if it is unfolded. */
+function showTables() {
+  const isOpen = /** @type {HTMLDetailsElement} */ (byId("words")).open;
+  const lines = /** @type {any} */ ({ lines: linesTold(asked.script, asked.answers), refusals: refusalsOfAnswers(asked.answers, refusals) });
+  byId("tables").innerHTML = isOpen ? linesTable(lines) : "";
+  byId("account").innerHTML = isOpen && drawn ? accountTable(drawn) : "";
 }
 
 /**
@@ -311,6 +321,7 @@ function listen() {
   button("share").addEventListener("click", share);
   button("save").addEventListener("click", save);
   byId("rows").addEventListener("click", clicked);
+  byId("words").addEventListener("toggle", showTables);
   document.addEventListener("selectionchange", tellCaret);
   document.addEventListener("keydown", pressed);
   window.addEventListener("hashchange", takeLink);
