@@ -97,7 +97,12 @@ def edits(page: Opened) -> Cases:
         page.set("script", changed)
         yield f"edited: {name}", page.differences(page.read(changed))
     page.set("watched", "commerce")
-    yield "edited: what is watched", page.differences(page.read(text.rstrip("\n"), ["commerce"]))
+    own = page.read(text.rstrip("\n"), ["commerce"])
+    yield "edited: what is watched", page.differences(own)
+    page.set("example", "documents", "change")
+    yield "an example in its place", page.differences(page.read(text_of("documents")))
+    page.set("example", "", "change")
+    yield "the script that was typed, again", page.differences(own)
 
 
 def refusals(page: Opened) -> Cases:

@@ -1,4 +1,7 @@
-/** The picture in a page: in a window that is narrow its title, its legend and its refusals stand around it, and what its lanes are called stays in sight. */
+/**
+ * The picture in a page. Where it is wider than its box its title, its legend and its refusals stand around it, and while its columns are scrolled what its
+ * lanes are called stays in sight, and so do the words of its bars.
+ */
 
 import { numbersOf, refusalsOf } from "./facts.mjs";
 import { legend, picture } from "./picture.mjs";
@@ -8,17 +11,21 @@ import { element, escaped } from "./svg.mjs";
 
 const MOST_STRETCH = 2.2;
 const NARROW_LABELS = 138;
+const WORDS_MARGIN = 5;
 const SVG_NAMES = "http://www.w3.org/2000/svg";
 
 /**
  * What is shown of facts: the drawing, and as HTML what stands above and below it, which is nothing where the drawing has it.
  * @param {Facts} facts
- * @param {number | null} narrow how wide the window is, if it is narrow
+ * @param {number} room how wide the box is
+ * @param {boolean} isNarrow
  */
-export function framed(facts, narrow) {
-  if (narrow === null) return { head: "", drawing: picture(facts, { mostStretch: MOST_STRETCH }), foot: "" };
-  const look = { width: narrow, labelRoom: NARROW_LABELS, mostStretch: MOST_STRETCH, bare: true };
-  return { head: headTold(facts), drawing: picture(facts, look), foot: refusedTold(facts) };
+export function framed(facts, room, isNarrow) {
+  const whole = isNarrow ? "" : picture(facts, { mostStretch: MOST_STRETCH });
+  const width = Number(/ width="(\d+)"/.exec(whole)?.[1]);
+  if (width <= room) return { head: "", drawing: whole, foot: "" };
+  const look = isNarrow ? { width: room, labelRoom: NARROW_LABELS } : {};
+  return { head: headTold(facts), drawing: picture(facts, { ...look, mostStretch: MOST_STRETCH, bare: true }), foot: refusedTold(facts) };
 }
 
 /** @param {Facts} facts */
@@ -44,15 +51,52 @@ function refusedTold(facts) {
 }
 
 /**
- * Keeps the titles and the labels of a drawing that is wider than its box in sight, while its columns are scrolled.
+ * Keeps the titles, the labels and the words of a drawing that is wider than its box in sight, while its columns are scrolled.
  * @param {HTMLElement} box
  */
-export function pinLabels(box) {
+export function keepInSight(box) {
   const svg = box.querySelector("svg");
-  const moves = svg ? [...svg.querySelectorAll("g.move")] : [];
   const first = svg?.querySelector(".column");
+  box.onscroll = null;
   if (!svg || !first || svg.width.baseVal.value <= box.clientWidth) return;
   const left = Number(first.getAttribute("x"));
+  pinLabels(box, svg, left);
+  const bars = [...svg.querySelectorAll(".bar")].map(barWords);
+  const shift = () => bars.forEach((bar) => shiftWords(bar, box.scrollLeft + left + WORDS_MARGIN));
+  box.onscroll = shift;
+  shift();
+}
+
+/**
+ * The words of a bar with the ground below them, where they begin, and how far they may be shifted.
+ * @param {Element} bar
+ */
+function barWords(bar) {
+  const [frame, ...rest] = /** @type {SVGGraphicsElement[]} */ ([...bar.children]);
+  const words = rest.filter((it) => it.tagName === "text" || it.getAttribute("fill") === "#ffffff");
+  const boxes = words.map((it) => it.getBBox());
+  const end = Math.max(...boxes.map((it) => it.x + it.width));
+  return { words, begin: Math.min(...boxes.map((it) => it.x)), most: frame.getBBox().x + frame.getBBox().width - WORDS_MARGIN - end };
+}
+
+/**
+ * Shifts the words of a bar whose beginning isn't seen to where it is seen.
+ * @param {ReturnType<typeof barWords>} bar
+ * @param {number} left where what is seen begins
+ */
+function shiftWords({ words, begin, most }, left) {
+  const by = Math.max(0, Math.min(left - begin, most));
+  for (const it of words) it.setAttribute("transform", `translate(${by} 0)`);
+}
+
+/**
+ * Puts the titles and the labels into a drawing of their own, which isn't scrolled.
+ * @param {HTMLElement} box
+ * @param {SVGSVGElement} svg
+ * @param {number} left where the columns begin
+ */
+function pinLabels(box, svg, left) {
+  const moves = [...svg.querySelectorAll("g.move")];
   const height = svg.height.baseVal.value;
   const pinned = document.createElementNS(SVG_NAMES, "svg");
   for (const [name, value] of Object.entries({ class: "pinned", width: left, height, viewBox: `0 0 ${left} ${height}`, "aria-hidden": "true" })) {
@@ -91,5 +135,7 @@ function groundOf(moves, left) {
  */
 export function showLastColumn(box) {
   const last = [...box.querySelectorAll(".column")].pop();
-  if (last) box.scrollLeft += last.getBoundingClientRect().right - box.getBoundingClientRect().right + 16;
+  if (!last) return;
+  box.scrollLeft += last.getBoundingClientRect().right - box.getBoundingClientRect().right + 16;
+  box.dispatchEvent(new Event("scroll"));
 }

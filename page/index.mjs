@@ -8,7 +8,7 @@ import { MOST_ROWS, Superseded, answersTo, askingInTurns, beginningOf } from "./
 import { MOST_BYTES, readScript } from "./script.mjs";
 import { lineTold, sheetRows } from "./sheet.mjs";
 import { counted } from "./facts.mjs";
-import { framed, pinLabels, showLastColumn } from "./framed.mjs";
+import { framed, keepInSight, showLastColumn } from "./framed.mjs";
 import { escaped } from "./svg.mjs";
 import { accountTable, linesTable } from "./tables.mjs";
 
@@ -18,6 +18,7 @@ import { accountTable, linesTable } from "./tables.mjs";
  */
 
 const FIRST_EXAMPLE = "two_shards";
+const OWN_NAME = "move";
 const NO_MOVE = "No move has begun yet. The picture begins with the first create that is answered ok.";
 
 /** @type {{name: string, text: string}[]} */
@@ -40,6 +41,8 @@ let asked = { script: readScript("", []), answers: [] };
 /** @type {import("./facts.mjs").Facts | null} */
 let drawn = null;
 const narrow = matchMedia("(max-width: 700px)");
+let frameWidth = 0; // of the box for which the picture was drawn
+let own = { text: "", watched: "" }; // what was typed, or came by a link
 
 /**
  * The element of a name; there is one, by index.html.
@@ -49,9 +52,10 @@ function byId(name) {
   return /** @type {HTMLElement} */ (document.getElementById(name));
 }
 
-/** @param {string} text */
-function say(text) {
+/** @param {string} text @param {boolean} [isWrong] */
+function say(text, isWrong = false) {
   byId("said").textContent = text;
+  byId("said").className = isWrong ? "wrong" : "";
 }
 
 function scriptNow() {
@@ -159,7 +163,7 @@ async function showPicture(script, answers) {
   turn += 1;
   const mine = turn;
   asked = { script, answers };
-  if (!module || answers.length !== script.lines.length) return showDrawing(null, module ? "" : "The controller isn't there.");
+  if (!module || answers.length !== script.lines.length) return showDrawing(null, module ? "" : "Nothing is drawn, as the controller doesn't run in this browser.");
   known = stillKnown(known, script);
   byId("picture").setAttribute("aria-busy", "true");
   try {
@@ -196,11 +200,12 @@ function showTables() {
 function frame(instead) {
   const box = byId("picture");
   const wasAtEnd = box.scrollLeft + box.clientWidth >= box.scrollWidth - 2;
-  const { head, drawing, foot } = drawn ? framed(drawn, narrow.matches ? box.clientWidth : null) : { head: "", drawing: instead, foot: "" };
+  frameWidth = box.clientWidth;
+  const { head, drawing, foot } = drawn ? framed(drawn, frameWidth, narrow.matches) : { head: "", drawing: instead, foot: "" };
   byId("head").innerHTML = head;
   box.innerHTML = drawing;
   byId("meanings").innerHTML = foot;
-  pinLabels(box);
+  keepInSight(box);
   if (wasAtEnd) showLastColumn(box);
 }
 
@@ -229,10 +234,14 @@ function take(name, text, watched, at) {
   show();
 }
 
-/** @param {string} name */
+/**
+ * Takes an example, or with no name the script that was typed.
+ * @param {string} name
+ */
 function takeExample(name) {
   const found = examples.find((it) => it.name === name);
   if (found) take(found.name, found.text, "", null);
+  else take(OWN_NAME, own.text, own.watched, null);
 }
 
 /** Takes the script of the link, if the address has one. */
@@ -240,12 +249,13 @@ function takeLink() {
   try {
     const linked = readFragment(location.hash);
     if (!linked) return false;
-    take("linked", linked.text, linked.watched, linked.at);
+    own = { text: linked.text, watched: linked.watched };
+    take(OWN_NAME, linked.text, linked.watched, linked.at);
     say("The script of the link stands here.");
     return true;
   } catch (error) {
     if (!(error instanceof SpoiltLink)) throw error;
-    say("The link is spoilt: it holds no whole script. Ask for it anew; an example stands here.");
+    say("The link is spoilt: it holds no whole script. Ask for it anew; an example stands here.", true);
     return false;
   }
 }
@@ -303,13 +313,18 @@ function clicked(event) {
   tellRow();
 }
 
+/** What is typed is a script of its own. */
+function typed() {
+  own = { text: field.value, watched: watchedField.value };
+  standing = { ...standing, name: OWN_NAME };
+  choice.value = "";
+  say("");
+  show();
+}
+
 function listen() {
-  field.addEventListener("input", () => {
-    choice.value = "";
-    say("");
-    show();
-  });
-  watchedField.addEventListener("input", show);
+  field.addEventListener("input", typed);
+  watchedField.addEventListener("input", typed);
   slider.addEventListener("input", () => {
     standing = { ...standing, at: slider.value === slider.max ? null : Number(slider.value), row: null };
     show();
@@ -325,7 +340,7 @@ function listen() {
   document.addEventListener("selectionchange", tellCaret);
   document.addEventListener("keydown", pressed);
   window.addEventListener("hashchange", takeLink);
-  narrow.addEventListener("change", () => drawn && frame(""));
+  window.addEventListener("resize", () => drawn && frameWidth !== byId("picture").clientWidth && frame(""));
 }
 
 // ---- the beginning
