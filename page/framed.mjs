@@ -62,7 +62,12 @@ export function keepInSight(box) {
   const left = Number(first.getAttribute("x"));
   pinLabels(box, svg, left);
   const bars = [...svg.querySelectorAll(".bar")].map(barWords);
-  const shift = () => bars.forEach((bar) => shiftWords(bar, box.scrollLeft + left + WORDS_MARGIN));
+  const besideColumns = [...svg.querySelectorAll(".steps > text")].filter((it) => Number(it.getAttribute("x")) <= left + 6);
+  const shift = () => {
+    bars.forEach((bar) => shiftWords(bar, box.scrollLeft + left + WORDS_MARGIN));
+    // what is said of the journal stands where the columns begin
+    besideColumns.forEach((it) => it.setAttribute("visibility", box.scrollLeft > WORDS_MARGIN ? "hidden" : "visible"));
+  };
   box.onscroll = shift;
   shift();
 }
@@ -102,18 +107,16 @@ function pinLabels(box, svg, left) {
   for (const [name, value] of Object.entries({ class: "pinned", width: left, height, viewBox: `0 0 ${left} ${height}`, "aria-hidden": "true" })) {
     pinned.setAttribute(name, String(value));
   }
-  pinned.append(groundOf(moves, left), ...moves.flatMap((move) => fixedParts(move, left)));
+  pinned.append(groundOf(moves, left), ...moves.flatMap(fixedParts));
   box.append(pinned);
 }
 
 /**
- * What of a move's panel isn't of any column: its headings, its labels, and the words on the journal, which begin at the columns.
+ * What of a move's panel isn't of any column: its headings and its labels.
  * @param {Element} move
- * @param {number} left
  */
-function fixedParts(move, left) {
-  const told = [...move.querySelectorAll(".steps > text")].filter((it) => Number(it.getAttribute("x")) <= left + 6);
-  return [...move.querySelectorAll(":scope > text, .lane > text:first-child"), ...told];
+function fixedParts(move) {
+  return [...move.querySelectorAll(':scope > text, .lane > text:first-child, .steps > text[text-anchor="end"]')];
 }
 
 /**
