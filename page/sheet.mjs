@@ -25,11 +25,21 @@ function sheetRow(line, row, place, answers) {
   const kinds = [place === undefined ? "silent" : answer === undefined ? "waits" : "done"];
   if (answer !== undefined && refusalIn(answer)) kinds.push("refused");
   if (place !== undefined && place === answers.length - 1) kinds.push("current");
-  const told = answer === undefined ? "" : element("samp", { class: "answer" }, escaped(answer));
+  const told = answer === undefined ? "" : element("samp", { class: "answer" }, answerShown(answer));
   const number = element("span", { class: "number" }, String(row + 1));
   // a line that is empty is as high as any other
   const shown = element("span", { class: "line", "aria-hidden": "true" }, escaped(line) || "\u200b");
   return element("li", { class: kinds.join(" "), "data-row": row }, number, shown, told);
+}
+
+/**
+ * An answer beside its line. That a line is refused is shown by a mark too, which is all where there is little room.
+ * @param {string} answer
+ */
+function answerShown(answer) {
+  const [verb, ...rest] = answer.split(" ");
+  if (verb !== "refused") return escaped(answer);
+  return element("span", { class: "verb" }, "refused ") + escaped(rest.join(" "));
 }
 
 /**
