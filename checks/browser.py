@@ -13,7 +13,8 @@ from collections.abc import Iterator
 from typing import Any
 
 BROWSER = "chromium"
-FLAGS = ["--headless=new", "--no-sandbox", "--disable-gpu", "--no-first-run", "--disable-background-networking", "--disable-extensions", "--mute-audio", "--hide-scrollbars"]
+FLAGS = ["--headless=new", "--no-sandbox", "--disable-gpu", "--disable-dev-shm-usage", "--no-first-run", "--disable-background-networking"]
+FLAGS += ["--disable-extensions", "--mute-audio", "--hide-scrollbars"]
 Found = dict[str, Any]
 
 

@@ -122,14 +122,33 @@ def without_memory64(path: pathlib.Path, folder: pathlib.Path) -> Cases:
             yield f"a browser {name}", disabled(page)
 
 
-def disabled(page: Opened) -> list[str]:
+# Another module: the page's own, with this in its exports.
+OTHER_MODULE = """const whole = WebAssembly.instantiate;
+WebAssembly.instantiate = async (...words) => ({{ instance: {{ exports: {{ ...(await whole(...words)).instance.exports, {export} }} }} }});"""
+STOPS = "mt_run: () => { throw new WebAssembly.RuntimeError('unreachable'); }"
+
+
+def other_modules(path: pathlib.Path, folder: pathlib.Path) -> Cases:
+    """A controller that stops in the middle of a run, and one that tells its version."""
+    with opened(path, path, folder) as page:
+        page.tab.call("Page.addScriptToEvaluateOnNewDocument", source=OTHER_MODULE.format(export=STOPS))
+        yield "a controller that stops", disabled(page, "problem", "stopped in the middle (unreachable)")
+    with opened(path, path, folder) as page:
+        page.tab.call("Page.addScriptToEvaluateOnNewDocument", source=OTHER_MODULE.format(export="mt_version: () => 1002030"))
+        page.open()
+        told = page.tab.value("document.getElementById('version').textContent")
+        yield "a controller that tells its version", [] if told == " Version 1.2.30." else [told]
+
+
+def disabled(page: Opened, where: str = "unable", wanted: str = "64-bit memory") -> list[str]:
     """What is wrong with the page where it can't run the controller."""
     page.open()
     seen = page.seen()
-    told = page.tab.value("document.getElementById('unable').checkVisibility() ? document.getElementById('unable').textContent : ''")
+    told = page.tab.value(f"document.getElementById('{where}').checkVisibility() ? document.getElementById('{where}').textContent : ''")
     open_controls = page.tab.value("['all', 'on', 'back', 'position'].filter((it) => !document.getElementById(it).disabled)")
-    found = ["isn't told"] * ("64-bit memory" not in told) + [f"{it} can be pressed" for it in open_controls]
+    found = ["isn't told"] * (wanted not in told) + [f"{it} can be pressed" for it in open_controls]
     found += ["something is answered"] * bool(seen["told"] or seen["facts"]) + ["there is no script"] * (not seen["script"])
+    found += ["the script isn't seen"] * (not page.tab.value("document.querySelectorAll('#rows .line').length"))
     page.tab.press("Enter", "Enter", 13, 2)
     page.tab.press(".", "Period", 190, 1)
     return found + ["something is answered behind a key"] * bool(page.seen()["told"])

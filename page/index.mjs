@@ -81,7 +81,7 @@ function show() {
   const script = scriptNow();
   const count = Math.min(standing.at ?? script.lines.length, script.lines.length);
   watchedField.placeholder = readScript(text, []).watchers.join(" ") || "none";
-  byId("problem").textContent = tooLong(text);
+  if (module) byId("problem").textContent = tooLong(text);
   const answers = byId("problem").textContent ? [] : answersOrProblem(script, count);
   showSheet(text, script, answers);
   showPosition(script, answers.length);
@@ -98,16 +98,24 @@ function answersOrProblem(script, count) {
   }
 }
 
-/** @param {unknown} error */
+/**
+ * What an error means for whoever sees the page. Behind one that ends the module's code in the middle nothing more is asked of that module.
+ * @param {unknown} error
+ */
 function problemOf(error) {
   const said = error instanceof Error ? error.message : String(error);
+  if (error instanceof WebAssembly.RuntimeError) {
+    module = null;
+    disableRuns();
+    return `The controller stopped in the middle (${said}). The script can be saved; open the page anew to run it.`;
+  }
   const isOfNames = error instanceof Refused && said === "no keyspaces' names";
   return isOfNames ? "Nothing is run: of the watched keyspaces a word is no keyspace's name, or they are more than 31." : `Nothing is run: ${said}.`;
 }
 
 /** @param {string} text @param {import("./script.mjs").Script} script @param {string[]} answers */
 function showSheet(text, script, answers) {
-  byId("rows").innerHTML = byId("problem").textContent ? "" : sheetRows(text, script, answers);
+  byId("rows").innerHTML = tooLong(text) ? "" : sheetRows(text, script, answers);
   const current = byId("rows").querySelector(".current");
   if (current instanceof HTMLElement && document.activeElement !== field) scrollTo(byId("sheet"), current);
   showLine(text, script, answers);
@@ -171,6 +179,7 @@ async function showPicture(script, answers) {
     if (mine === turn) showDrawing(facts, "");
   } catch (error) {
     if (error instanceof Superseded || mine !== turn) return;
+    if (error instanceof WebAssembly.RuntimeError) byId("problem").textContent = problemOf(error);
     const isNone = error instanceof CannotDraw;
     showDrawing(null, isNone && error.message.endsWith("no move") ? NO_MOVE : `There is no picture: ${error instanceof Error ? error.message : error}.`);
   }
@@ -345,6 +354,10 @@ function listen() {
 
 // ---- the beginning
 
+function disableRuns() {
+  for (const name of ["all", "on", "back", "position"]) button(name).disabled = true;
+}
+
 /** The module that stands in the page; null, with a word why, where the browser can't run it. */
 async function moduleOrNone() {
   try {
@@ -360,7 +373,7 @@ async function begin() {
   module = await moduleOrNone();
   const version = module && versionOf(module);
   byId("version").textContent = version ? ` Version ${version}.` : "";
-  for (const name of ["all", "on", "back", "position"]) button(name).disabled = !module;
+  if (!module) disableRuns();
   listen();
   if (!takeLink()) takeExample(FIRST_EXAMPLE);
   document.documentElement.dataset.ready = "";
