@@ -10,6 +10,7 @@ import threading
 from collections.abc import Iterator
 
 from known_scripts import EXAMPLES
+from page_looks import MISPLACED
 from page_opened import Opened
 
 Cases = Iterator[tuple[str, list[str]]]
@@ -18,6 +19,7 @@ ODD = {
     "markup": "keyspace <img src=x onerror=document.title='taken'>\n# </script><script>document.title='taken'</script>\nkeyspace a&amp;b\n'\"\n",
     "letters beyond ASCII": "# Grüße, 漢字, 🐘\nkeyspace ключ\nget 🐘 1\nkeyspace a\n",
     "controls": "keyspace a\x01\x07\ntable\ta\tt\n\x7f\u2028\u200b\n\xa0\nkeyspace a\n",
+    "wide letters and tabs": "# " + "مرحبا " * 40 + "漢字" * 80 + "👨‍👩‍👧" * 40 + "a\u00ad\u00a0b " * 80 + "\ntable\t\t\tcommerce\tx" * 9 + "\n",
     "long words": "keyspace " + "a" * 5000 + "\n" + "#" * 5000 + "\n" + "get " * 2000 + "\nkeyspace " + "b" * 64 + "\n",
     "a move with odd names": "keyspace a-$\nkeyspace b_\nkeyspace -\nkeyspace forward\nkeyspace back\ntable forward t$-_\ncreate m forward back t$-_\nshow m\n",
     "names that are numbers": "keyspace 2\nkeyspace 1\ntable 2 9\ntable 2 8\ncreate 7 2 1 9\nadvance 7 forward 0 1\nget 9 1\nshow 7\n",
@@ -39,6 +41,7 @@ def odd_scripts(page: Opened) -> Cases:
         page.take(text, KEYSPACES.get(name, []))
         found = page.differences(page.read(text, KEYSPACES.get(name, [])))
         found += [f"became markup: {it}" for it in elements_of(page)] + ["it ran"] * (page.tab.value("document.title") != title)
+        found += page.tab.value(MISPLACED)
         yield f"a script with {name}", found
 
 
