@@ -6,7 +6,7 @@ import { SpoiltLink, fragmentOf, readFragment } from "./link.mjs";
 import { Refused, loadedModule, versionOf } from "./mt.mjs";
 import { MOST_ROWS, Superseded, answersTo, askingInTurns, beginningOf } from "./running.mjs";
 import { MOST_BYTES, readScript } from "./script.mjs";
-import { lineTold, sheetRows } from "./sheet.mjs";
+import { lineTold, editorRows } from "./editor.mjs";
 import { counted } from "./facts.mjs";
 import { framed, keepInSight, showLastColumn } from "./framed.mjs";
 import { escaped } from "./svg.mjs";
@@ -83,7 +83,7 @@ function show() {
   watchedField.placeholder = readScript(text, []).watchers.join(" ") || "none";
   if (module) byId("problem").textContent = tooLong(text);
   const answers = byId("problem").textContent ? [] : answersOrProblem(script, count);
-  showSheet(text, script, answers);
+  showEditor(text, script, answers);
   showPosition(script, answers.length);
   showPicture(beginningOf(script, count), answers);
 }
@@ -114,10 +114,10 @@ function problemOf(error) {
 }
 
 /** @param {string} text @param {import("./script.mjs").Script} script @param {string[]} answers */
-function showSheet(text, script, answers) {
-  byId("rows").innerHTML = tooLong(text) ? "" : sheetRows(text, script, answers);
+function showEditor(text, script, answers) {
+  byId("rows").innerHTML = tooLong(text) ? "" : editorRows(text, script, answers);
   const current = byId("rows").querySelector(".current");
-  if (current instanceof HTMLElement && document.activeElement !== field) scrollTo(byId("sheet"), current);
+  if (current instanceof HTMLElement && document.activeElement !== field) scrollTo(byId("editor"), current);
   showLine(text, script, answers);
 }
 
@@ -239,7 +239,7 @@ function take(name, text, watched, at) {
   watchedField.value = watched;
   choice.value = examples.some((it) => it.name === name) ? name : "";
   standing = { name, at, row: null };
-  byId("sheet").scrollTop = 0;
+  byId("editor").scrollTop = 0;
   show();
 }
 

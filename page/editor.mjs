@@ -13,14 +13,14 @@ import { element, escaped } from "./svg.mjs";
  * @param {Script} script whose rows are those of its lines
  * @param {string[]} answers to its first lines
  */
-export function sheetRows(text, script, answers) {
+export function editorRows(text, script, answers) {
   const places = new Map(script.rows.map((row, place) => [row, place]));
-  const rows = text.split("\n").map((line, row) => sheetRow(line, row, places.get(row), answers));
+  const rows = text.split("\n").map((line, row) => editorRow(line, row, places.get(row), answers));
   return rows.join("");
 }
 
 /** @param {string} line @param {number} row @param {number | undefined} place @param {string[]} answers */
-function sheetRow(line, row, place, answers) {
+function editorRow(line, row, place, answers) {
   const answer = place === undefined ? undefined : answers[place];
   const kinds = [place === undefined ? "silent" : answer === undefined ? "waits" : "done"];
   if (answer !== undefined && refusalIn(answer)) kinds.push("refused");
