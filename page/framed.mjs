@@ -12,6 +12,7 @@ import { element, escaped } from "./svg.mjs";
 const MOST_STRETCH = 2.2;
 const NARROW_LABELS = 138;
 const WORDS_MARGIN = 5;
+const MARK_ROOM = 7;
 const SVG_NAMES = "http://www.w3.org/2000/svg";
 
 /**
@@ -73,25 +74,36 @@ export function keepInSight(box) {
 }
 
 /**
- * The words of a bar with the ground below them, where they begin, and how far they may be shifted.
+ * The words of a bar with the ground below them, where they begin, how wide they are, where their room ends, and the marks of clients in the bar.
  * @param {Element} bar
  */
 function barWords(bar) {
   const [frame, ...rest] = /** @type {SVGGraphicsElement[]} */ ([...bar.children]);
   const words = rest.filter((it) => it.tagName === "text" || it.getAttribute("fill") === "#ffffff");
   const boxes = words.map((it) => it.getBBox());
-  const end = Math.max(...boxes.map((it) => it.x + it.width));
-  return { words, begin: Math.min(...boxes.map((it) => it.x)), most: frame.getBBox().x + frame.getBBox().width - WORDS_MARGIN - end };
+  const begin = Math.min(...boxes.map((it) => it.x));
+  const { x, width } = frame.getBBox();
+  const found = /** @type {SVGGraphicsElement[]} */ ([...(bar.parentElement?.querySelectorAll(":scope > circle, :scope > .refused") ?? [])]);
+  const places = found.map((it) => it.getBBox().x + it.getBBox().width / 2).sort((one, other) => one - other);
+  const marks = places.filter((mark) => x < mark && mark < x + width);
+  return { words, begin, width: Math.max(...boxes.map((it) => it.x + it.width)) - begin, end: x + width - WORDS_MARGIN, marks };
 }
 
 /**
- * Shifts the words of a bar whose beginning isn't seen to where it is seen.
+ * Shifts the words of a bar whose beginning isn't seen to where it is seen, clear of its marks; hides them where there is no room.
  * @param {ReturnType<typeof barWords>} bar
  * @param {number} left where what is seen begins
  */
-function shiftWords({ words, begin, most }, left) {
-  const by = Math.max(0, Math.min(left - begin, most));
-  for (const it of words) it.setAttribute("transform", `translate(${by} 0)`);
+function shiftWords({ words, begin, width, end, marks }, left) {
+  let at = Math.max(left, begin);
+  if (at > begin) {
+    for (const mark of marks) if (at - MARK_ROOM < mark && mark < at + width + MARK_ROOM) at = mark + MARK_ROOM + 3;
+  }
+  const isSeen = at === begin || at + width <= end;
+  for (const it of words) {
+    it.setAttribute("transform", `translate(${at - begin} 0)`);
+    it.setAttribute("visibility", isSeen ? "visible" : "hidden");
+  }
 }
 
 /**
@@ -103,10 +115,7 @@ function shiftWords({ words, begin, most }, left) {
 function pinLabels(box, svg, left) {
   const moves = [...svg.querySelectorAll("g.move")];
   const height = svg.height.baseVal.value;
-  const pinned = document.createElementNS(SVG_NAMES, "svg");
-  for (const [name, value] of Object.entries({ class: "pinned", width: left, height, viewBox: `0 0 ${left} ${height}`, "aria-hidden": "true" })) {
-    pinned.setAttribute(name, String(value));
-  }
+  const pinned = drawnMark("svg", { class: "pinned", width: left, height, viewBox: `0 0 ${left} ${height}`, "aria-hidden": "true" });
   pinned.append(groundOf(moves, left), ...moves.flatMap(fixedParts));
   box.append(pinned);
 }
@@ -127,9 +136,18 @@ function fixedParts(move) {
 function groundOf(moves, left) {
   const boxes = moves.map((move) => /** @type {SVGGElement} */ (move).getBBox());
   const [top, bottom] = [boxes[0].y - 2, Math.max(...boxes.map((box) => box.y + box.height))];
-  const ground = document.createElementNS(SVG_NAMES, "rect");
-  for (const [name, value] of Object.entries({ x: 0, y: top, width: left - 5, height: bottom - top, fill: "#ffffff" })) ground.setAttribute(name, String(value));
-  return ground;
+  return drawnMark("rect", { x: 0, y: top, width: left - 5, height: bottom - top, fill: "#ffffff" });
+}
+
+/**
+ * An element of SVG.
+ * @param {string} name
+ * @param {Record<string, string | number>} attributes
+ */
+function drawnMark(name, attributes) {
+  const made = document.createElementNS(SVG_NAMES, name);
+  for (const [key, value] of Object.entries(attributes)) made.setAttribute(key, String(value));
+  return made;
 }
 
 /**
