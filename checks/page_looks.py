@@ -52,7 +52,8 @@ UNREADABLE = """((leastContrast, leastType) => {
   }
   for (const text of document.querySelectorAll("#picture svg text")) {
     const spans = text.querySelectorAll("tspan");
-    const own = [...(spans.length ? spans : [text])].filter((it) => !["■", ""].includes(it.textContent));
+    const isSeen = getComputedStyle(text).visibility === "visible";
+    const own = [...(spans.length ? spans : [text])].filter((it) => isSeen && !["■", ""].includes(it.textContent));
     for (const it of own) judge(it, parts(getComputedStyle(it).fill), drawnGround(text), it.textContent);
   }
   return [...new Set(found)];
