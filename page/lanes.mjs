@@ -5,9 +5,10 @@ import { SMALL, cross, cut, dot, element, firstThatFits, line, rect, words } fro
 import { phaseOf, wayBackOf } from "./words.mjs";
 
 /**
- * A move with the places of the columns: column `i` reaches from `xs[i]` to `xs[i + 1]`; `labels` is where the names of lanes end.
+ * A move with the places of the columns: column `i` reaches from `xs[i]` to `xs[i + 1]`; `labels` is where the names of lanes end; `width` is what is seen at
+ * once.
  * @typedef {{facts: import("./facts.mjs").Facts, move: import("./facts.mjs").Move, index: number, states: (import("./facts.mjs").State | null)[],
- *            xs: number[], labels: number}} Panel
+ *            xs: number[], labels: number, width: number}} Panel
  *
  * A mark of clients' lines in a column.
  * @typedef {{x: number, write: boolean, refused: boolean}} Mark
@@ -29,6 +30,14 @@ const PHASES = { none: "#eceff2", rest: "#e3edf8", way: "#fff3bf", switched: "#f
 const MARK = 4;
 
 /**
+ * How wide the label of a lane may be.
+ * @param {Panel} panel
+ */
+export function labelRoomOf({ labels }) {
+  return labels - 8;
+}
+
+/**
  * A lane with its label and its bars, below a place.
  * @param {Panel} panel
  * @param {Lane} lane
@@ -44,7 +53,8 @@ export function laneDrawn(panel, lane, top) {
     return element("g", said, lane.draw({ left, right, top, height: lane.height, value, marks }));
   });
   const marks = lane.marks.map((mark) => (mark.refused ? cross(mark.x, middle, MARK) : dot(mark.x, middle, MARK, mark.write)));
-  const label = firstThatFits(lane.labels, LABEL_ROOM, LANE_WORDS) ?? cut(lane.labels[lane.labels.length - 1], 29);
+  const room = labelRoomOf(panel);
+  const label = firstThatFits(lane.labels, room, LANE_WORDS) ?? cut(lane.labels[lane.labels.length - 1], Math.floor(room / 7.2) - 1);
   const name = words(panel.labels, middle + 4, label, { "text-anchor": "end" });
   return element("g", { class: "lane", "data-lane": `${panel.index} ${lane.name}` }, name, ...drawn, ...marks);
 }

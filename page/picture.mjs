@@ -4,6 +4,7 @@ import { linesOf, numbersOf, refusalsOf } from "./facts.mjs";
 import { INK, MARGIN, RED, RULE, SOFT, cross, cut, dot, element, escaped, line, rect, short, stacked, widthOf, words, wrapped } from "./svg.mjs";
 import { descriptionOf, kindOf, labelOf, refusalWords } from "./words.mjs";
 import { REFUSED_FILL, REFUSED_PATTERN } from "./served.mjs";
+import { LABEL_ROOM } from "./lanes.mjs";
 import { panelDrawn } from "./panel.mjs";
 
 /** @typedef {import("./facts.mjs").Facts} Facts */
@@ -11,7 +12,6 @@ import { panelDrawn } from "./panel.mjs";
 /** @typedef {import("./svg.mjs").Part} Part */
 
 const WIDTH = 1230; // so that a page of 1,280 has room for it
-const LEFT = 236;
 const SLANT = 58;
 const LABEL_SIZE = 11;
 const NUMBER_SIZE = 9.5;
@@ -21,16 +21,27 @@ const STYLE = 'text{font-family:system-ui,"Segoe UI","DejaVu Sans",sans-serif}.c
 const CAPTION = "Time runs from left to right. Each column is a line of the script, named at its foot, and shows what stands behind that line.";
 
 /**
+ * How a picture is to look: how wide it is if its columns have room there; the room before them for labels; how many times as wide as liked a column is at
+ * most, so that one that grows isn't all stretched; and whether it has its columns alone, as its title, its legend and its refusals stand elsewhere.
+ * @typedef {{width?: number, labelRoom?: number, mostStretch?: number, bare?: boolean}} Look
+ *
+ * The same, with the place at which the columns begin.
+ * @typedef {{width: number, left: number, mostStretch: number}} Frame
+ */
+
+/**
  * The facts of a script as a picture.
  * @param {Facts} facts
- * @returns {string} an SVG element, 1,230 pixels wide if its columns have room there
+ * @param {Look} [look]
+ * @returns {string} an SVG element
  */
-export function picture(facts) {
-  const xs = columnEdges(facts);
-  const width = Math.max(WIDTH, Math.ceil(xs[xs.length - 1] + MARGIN));
-  const head = headDrawn(facts);
-  const panels = stacked(head.bottom, panelsOf(facts, xs));
-  const foot = footDrawn(facts, xs, panels.bottom);
+export function picture(facts, { width: liked = WIDTH, labelRoom = LABEL_ROOM, mostStretch = Infinity, bare = false } = {}) {
+  const frame = { width: liked, left: labelRoom + 20, mostStretch };
+  const xs = columnEdges(facts, frame);
+  const width = Math.max(liked, Math.ceil(xs[xs.length - 1] + MARGIN));
+  const head = bare ? { svg: "", bottom: 4 } : headDrawn(facts);
+  const panels = stacked(head.bottom, panelsOf(facts, xs, frame));
+  const foot = footDrawn(facts, xs, panels.bottom, bare);
   const height = Math.ceil(foot.bottom);
   const named = { role: "img", "aria-labelledby": "picture-title picture-description" };
   return element(
@@ -52,15 +63,16 @@ export function picture(facts) {
 /**
  * Where the columns begin, and the last one ends. They fill the width, and go past it only if all are as narrow as can be.
  * @param {Facts} facts
+ * @param {Frame} frame
  */
-function columnEdges(facts) {
+function columnEdges(facts, { width, left, mostStretch }) {
   const kinds = facts.columns.map((column) => widthsOf(facts, column));
-  const room = WIDTH - LEFT - MARGIN;
+  const room = width - left - MARGIN;
   const least = kinds.reduce((sum, [narrow]) => sum + narrow, 0);
   const liked = kinds.reduce((sum, [, wide]) => sum + wide, 0);
   const share = Math.min(Math.max((room - least) / Math.max(liked - least, 1), 0), 1);
-  const stretch = liked < room ? room / liked : 1;
-  const edges = [LEFT];
+  const stretch = liked < room ? Math.min(room / liked, mostStretch) : 1;
+  const edges = [left];
   kinds.forEach(([narrow, wide], place) => edges.push(edges[place] + (narrow + (wide - narrow) * share) * stretch));
   return edges;
 }
@@ -76,11 +88,11 @@ function widthsOf(facts, column) {
   return [least, Math.max(least, wide)];
 }
 
-/** @param {Facts} facts @param {number[]} xs @returns {Part[]} */
-function panelsOf(facts, xs) {
+/** @param {Facts} facts @param {number[]} xs @param {Frame} frame @returns {Part[]} */
+function panelsOf(facts, xs, { width, left }) {
   return facts.moves.map((move, index) => {
     const states = facts.columns.map((column) => column.moves[index]);
-    return (top) => panelDrawn({ facts, move, index, states, xs, labels: LEFT - 12 }, top);
+    return (top) => panelDrawn({ facts, move, index, states, xs, labels: left - 12, width }, top);
   });
 }
 
@@ -96,6 +108,12 @@ const LEGEND = [
   [(x, y) => rect(x - 7, y - 2.5, 14, 5, RED), "a stream is behind; −2: by two entries"],
 ];
 
+/** How to read the picture, and each of its marks as an SVG element, with what it means. */
+export function legend() {
+  const box = { xmlns: "http://www.w3.org/2000/svg", viewBox: "0 0 18 18", width: 18, height: 18, "aria-hidden": "true" };
+  return { caption: CAPTION, marks: LEGEND.map(([drawn, text]) => ({ svg: element("svg", box, drawn(9, 9)), text })) };
+}
+
 /**
  * The title, how to read the picture, and what its marks mean.
  * @param {Facts} facts
@@ -103,12 +121,12 @@ const LEGEND = [
 function headDrawn(facts) {
   const title = words(MARGIN, 30, cut(facts.title, 100), { "font-size": 18, "font-weight": 700 });
   let x = MARGIN + 8;
-  const legend = LEGEND.map(([drawn, text]) => {
+  const marks = LEGEND.map(([drawn, text]) => {
     const mark = drawn(x, 70) + words(x + 14, 74, text, { fill: SOFT });
     x += widthOf(text) + 44;
     return mark;
   });
-  return { svg: title + words(MARGIN, 50, CAPTION, { fill: SOFT }) + legend.join(""), bottom: 84 };
+  return { svg: title + words(MARGIN, 50, CAPTION, { fill: SOFT }) + marks.join(""), bottom: 84 };
 }
 
 /**
@@ -116,13 +134,14 @@ function headDrawn(facts) {
  * @param {Facts} facts
  * @param {number[]} xs
  * @param {number} top
+ * @param {boolean} bare
  */
-function footDrawn(facts, xs, top) {
+function footDrawn(facts, xs, top, bare) {
   const labels = facts.columns.map((column) => labelOf(facts, column));
   const columns = facts.columns.map((column, place) => columnFoot(facts, column, labels[place], (xs[place] + xs[place + 1]) / 2, top));
   const longest = Math.max(...labels.map((label) => widthOf(label, LABEL_SIZE)));
   const below = top + 44 + longest * Math.sin((SLANT * Math.PI) / 180);
-  const refused = refusalsDrawn(facts, xs[xs.length - 1], below + 12);
+  const refused = bare ? { svg: "", bottom: below } : refusalsDrawn(facts, xs[xs.length - 1], below + 12);
   return { svg: element("g", { class: "foot" }, ...columns) + refused.svg, bottom: refused.bottom };
 }
 

@@ -1,7 +1,7 @@
 /** Who serves a move's tables: by their names, and at each primary. */
 
 import { TYPES, rangeOf, serverOf, stretches } from "./facts.mjs";
-import { LABEL_ROOM, LANE_WORDS, clearOfMarks } from "./lanes.mjs";
+import { LANE_WORDS, clearOfMarks, labelRoomOf } from "./lanes.mjs";
 import { RED, SIDES, cut, element, rect, widthOf, words } from "./svg.mjs";
 
 /** @typedef {import("./facts.mjs").Move} Move */
@@ -78,17 +78,18 @@ export function nameLanes(panel, tables) {
     /** @param {string} shard @returns {Values} */
     const valuesOf = (shard) => panel.states.map((state) => state && serverOf(state.by_name[table][type][shard], table));
     const groups = shardsAlike(panel.move.shards, valuesOf, type !== "primary");
-    return labelledAlike(groups.map((shards) => nameLane(panel, tables, type, shards, valuesOf(shards[0]))));
+    return labelledAlike(panel, groups.map((shards) => nameLane(panel, tables, type, shards, valuesOf(shards[0]))));
   });
 }
 
 /**
  * Lanes with labels of one form, in which all of them have room.
+ * @param {Panel} panel
  * @param {Lane[]} lanes
  * @returns {Lane[]}
  */
-function labelledAlike(lanes) {
-  const fitting = lanes.map(({ labels }) => labels.findIndex((label) => widthOf(label, LANE_WORDS) <= LABEL_ROOM));
+function labelledAlike(panel, lanes) {
+  const fitting = lanes.map(({ labels }) => labels.findIndex((label) => widthOf(label, LANE_WORDS) <= labelRoomOf(panel)));
   const form = fitting.includes(-1) ? -1 : Math.max(...fitting);
   return lanes.map((lane) => ({ ...lane, labels: lane.labels.slice(form) }));
 }

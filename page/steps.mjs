@@ -1,6 +1,7 @@
 /** The steps of switches and reversals: how many stand done behind each column, and the journal, behind which none is undone. */
 
 import { counted, refusalIn, wordsIn } from "./facts.mjs";
+import { labelRoomOf } from "./lanes.mjs";
 import { GREEN, HALO, INK, RED, RULE, SMALL, SOFT, TEAL, cross, cut, element, firstThatFits, line, rect, short, words } from "./svg.mjs";
 
 const RUNG = 15;
@@ -38,17 +39,27 @@ export function stepsDrawn(panel, top) {
  * @param {Panel} panel
  * @param {YOf} yOf
  */
-function ground({ move, xs, labels }, yOf) {
+function ground(panel, yOf) {
+  const { move, xs, labels } = panel;
   const [left, right] = [xs[0], xs[xs.length - 1]];
   const behind = rect(left, yOf(STEPS) - 4, right - left, yOf(move.journal) - yOf(STEPS) + 4, "#fdf3f2");
   const rungs = move.steps.map((name, number) => {
     const isJournal = number === move.journal;
     const looks = { "font-size": SMALL, fill: isJournal ? RED : SOFT, "text-anchor": "end", "font-weight": isJournal ? 700 : null };
     const y = yOf(number + 1);
-    return words(labels, y + RUNG / 2 + 4, cut(isJournal ? name.toUpperCase() : name, 38), looks) + line(left, y, right, y, "#eceff2");
+    const label = firstThatFits([name, withoutSide(name)], labelRoomOf(panel), SMALL) ?? cut(withoutSide(name), 21);
+    return words(labels, y + RUNG / 2 + 4, isJournal ? label.toUpperCase() : label, looks) + line(left, y, right, y, "#eceff2");
   });
   const journal = line(left, yOf(move.journal), right, yOf(move.journal), RED, 1.6, { "stroke-dasharray": "6 4" });
   return behind + rungs.join("") + line(left, yOf(0), right, yOf(0), RULE) + journal;
+}
+
+/**
+ * A step's name without the side that it is of.
+ * @param {string} name
+ */
+function withoutSide(name) {
+  return name.replace(/:? (?:rules lead to|at|of) the .*/, "");
 }
 
 /** @param {Panel} panel @param {YOf} yOf */

@@ -10,7 +10,7 @@ from mt_picture.history import Columns, History
 from mt_picture.moves import moves_begun
 from mt_picture.script import Script
 from mt_runs.program import Program
-from mt_runs.refusals import ScriptPage
+from mt_runs.refusals import Refusal, ScriptPage
 from mt_runs.topology import parse_dump
 
 AT_ONCE = 4  # runs
@@ -39,7 +39,12 @@ def gather(program: Program, script: Script, page: ScriptPage) -> Facts:
 def _refusals(answers: Iterable[str], page: ScriptPage) -> dict[str, dict[str, str]]:
     """What docs/SCRIPT.md says of each refusal that was answered, without its marks."""
     told = {name: page.refusal_of(answer) for answer in answers if (name := refusal_name(answer))}
-    return {name: {"when": _plain(it.when), "what_to_do": _plain(it.what_to_do)} for name, it in told.items() if it}
+    return plain_refusals(it for it in told.values() if it)
+
+
+def plain_refusals(refusals: Iterable[Refusal]) -> dict[str, dict[str, str]]:
+    """Refusals by their names as the document has them."""
+    return {it.name: {"when": _plain(it.when), "what_to_do": _plain(it.what_to_do)} for it in refusals}
 
 
 def _plain(text: str) -> str:

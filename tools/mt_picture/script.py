@@ -10,6 +10,7 @@ from mt_runs.program import MOST_WATCHERS, is_silent
 
 RUN_WORDS = re.compile(r"\bmt run\b([^<\n]*)")
 BLANKS = re.compile(r"[ \t]+")
+NAME = re.compile(r"[A-Za-z0-9_][A-Za-z0-9_-]{0,63}")  # of a keyspace
 
 
 @dataclass(frozen=True)
@@ -78,4 +79,4 @@ def _watchers(text: str, lines: Sequence[str]) -> tuple[str, ...]:
     if told:
         return tuple(told[1].split())
     words = [words_of(line) for line in lines]
-    return tuple(dict.fromkeys(it[1] for it in words if it[0] == "keyspace" and len(it) in (2, 3)))[:MOST_WATCHERS]
+    return tuple(dict.fromkeys(it[1] for it in words if it[0] == "keyspace" and len(it) in (2, 3) and NAME.fullmatch(it[1])))[:MOST_WATCHERS]
