@@ -1,0 +1,81 @@
+"""What is built of these sources, made anew where that is due.
+
+A file is due if it isn't there or a source is newer, as `./mt` takes a program to be.
+"""
+from __future__ import annotations
+
+import pathlib
+import subprocess
+from collections.abc import Iterable
+from dataclasses import dataclass
+
+PROVED, UNPROVED = "proved", "built without running the proofs"
+CODE = ("crates/*/src", "crates/*/specs", "crates/*/proofs", "crates.txt")
+BUILDER = "tools/unproved.py"
+PROVED_PROGRAM = "crates/mt_program/out/mt_program"
+UNPROVED_PROGRAM = "out/mt_unproved"
+PROVED_LIBRARY = "crates/mt/out/libmt.a"
+ARCHIVED, SHARED, PAGE = "out/libmt.a", "out/libmt.so", "out/mt.html"
+LIBRARY_SOURCES = (*CODE, BUILDER, "tools/library.py")
+PAGE_SOURCES = (*LIBRARY_SOURCES, "tools/wasm.py", "page", "examples", "docs/SCRIPT.md")
+
+
+class NotBuilt(Exception):
+    """Something can't be built; the text says what."""
+
+
+@dataclass(frozen=True)
+class Built:
+    """A file that was built, and what is known of it: `PROVED` or `UNPROVED`."""
+
+    path: pathlib.Path
+    how: str
+
+
+def is_new(top: pathlib.Path, name: str, sources: Iterable[str]) -> bool:
+    """Whether a file is there, and no source is newer; a source is a file or all of a folder, the folder's own time too."""
+    file = top / name
+    if not file.exists():
+        return False
+    found = [path for pattern in sources for path in top.glob(pattern)]
+    found += [below for path in found for below in path.rglob("*")]
+    return all(path.stat().st_mtime_ns <= file.stat().st_mtime_ns for path in found)
+
+
+def done(top: pathlib.Path, words: list[str]) -> None:
+    """Runs a command of the repository, which has to end well. What it says goes to standard error."""
+    ended = subprocess.run(words, cwd=top, stdin=subprocess.DEVNULL, stdout=subprocess.DEVNULL, check=False)
+    if ended.returncode:
+        raise NotBuilt(f"{' '.join(words)} ended with status {ended.returncode}")
+
+
+def program(top: pathlib.Path) -> Built:
+    """The program that `./mt` runs, which this has built if it is due."""
+    done(top, ["./mt", "help"])
+    for name, how, sources in ((PROVED_PROGRAM, PROVED, CODE), (UNPROVED_PROGRAM, UNPROVED, (*CODE, BUILDER))):
+        if is_new(top, name, sources):
+            return Built(top / name, how)
+    raise NotBuilt("a source was changed while the program was built")
+
+
+def made(top: pathlib.Path, target: str, names: Iterable[str], sources: tuple[str, ...]) -> None:
+    """Has a target of tools/build made, if one of its files is due."""
+    if not all(is_new(top, name, sources) for name in names):
+        done(top, ["tools/build", target])
+    for name in names:
+        if not is_new(top, name, sources):
+            raise NotBuilt(f"tools/build {target} made no {name}, or a source was changed meanwhile")
+
+
+def libraries(top: pathlib.Path) -> tuple[Built, Built]:
+    """The library to link, and the shared one. They are made of the proved library if there is one and no source is newer."""
+    is_proved = is_new(top, PROVED_LIBRARY, CODE)
+    made(top, "library", (ARCHIVED, SHARED), (*LIBRARY_SOURCES, *([PROVED_LIBRARY] if is_proved else [])))
+    how = PROVED if is_proved else UNPROVED
+    return Built(top / ARCHIVED, how), Built(top / SHARED, how)
+
+
+def page(top: pathlib.Path) -> Built:
+    """The page. Its module is compiled in a way that no proof covers."""
+    made(top, "page", (PAGE,), PAGE_SOURCES)
+    return Built(top / PAGE, UNPROVED)
