@@ -85,10 +85,11 @@ folders() {
     done
 }
 
-# Splits the list of an earlier install, if there is one, into files and folders.
+# Splits the list of an earlier install, if there is one, into files and folders. One that was ended before its list was in place left it as `installing`.
 read_list() {
     : > "$room/old"
     : > "$room/old_folders"
+    [ -f "$list" ] || list=$root/share/mt/installing
     [ -f "$list" ] || return 0
     while read -r line; do
         case /$line in
@@ -120,8 +121,10 @@ look_first() {
 
 # Writes the list, of what stands in these files.
 write_list() {
-    sort -u "$@" > "$root/share/mt/installing"
-    mv -f "$root/share/mt/installing" "$list"
+    sort -u "$@" > "$room/list"
+    mkdir -p "$root/share/mt"
+    cp "$room/list" "$root/share/mt/installing"
+    mv -f "$root/share/mt/installing" "$root/share/mt/installed"
 }
 
 # Puts each file in its place at once: whoever runs it meanwhile has the old one or the new one.
@@ -156,7 +159,6 @@ install_all() {
         [ -d "$root/$name" ] || printf '%s\n' "$name" >> "$room/made"
     done < "$room/folders"
     # listed before anything is there, so that what is left of an install that is ended early can be taken away
-    mkdir -p "$root/share/mt"
     write_list "$room/new" "$room/old" "$room/made"
     put_files
     remove "$room/gone"
@@ -172,11 +174,11 @@ remove() {
 }
 
 uninstall_all() {
-    [ -f "$list" ] || stop "there is no $list, which an install leaves"
+    [ -f "$list" ] || stop "there is no $root/share/mt/installed, which an install leaves"
     sort -r "$room/old_folders" > "$room/lowest_first"
     comm -23 "$room/old" "$room/own" > "$room/gone"
     remove "$room/gone"
-    rm -f "$root/share/mt/installing" "$list"
+    rm -f "$root/share/mt/installing" "$root/share/mt/installed"
     while read -r name; do
         # (./ has to be named otherwise, as rmdir takes no dot at the end)
         [ ! -d "$root/$name" ] || rmdir --ignore-fail-on-non-empty "$root/${name#./}"
