@@ -10,8 +10,8 @@ import subprocess
 from collections.abc import Iterator
 
 from known_scripts import examples
-from release_archives import Case, ran
-from release_unpacked import DRAWN, PYTHON, REHEARSED, TYPED
+from release_archives import TOP, Case, ran
+from release_unpacked import DRAWN, PYTHON, REHEARSED, STATUS_OF_PLAN, TYPED
 
 # What `mt` and install.sh need; what callers in C, those in Python with the tools, and readers of the man page need besides.
 LEAST = ("libc6", "dash", "coreutils")
@@ -89,7 +89,7 @@ class Root:
 
     def run(self, command: str, text: str | None = None) -> subprocess.CompletedProcess[str]:
         """A command of the shell, in the unpacked folder, with none of the variables from here."""
-        words = ["chroot", self.at, "/bin/sh", "-c", f"cd {FOLDER} && {command}"]
+        words = [shutil.which("chroot"), self.at, "/bin/sh", "-c", f"cd {FOLDER} && {command}"]
         env = {"PATH": "/usr/local/bin:/usr/bin:/bin", "LC_ALL": "C", "HOME": "/"}
         how = {"input": text, "stdin": None} if text is not None else {}
         return ran(words, self.at, env=env, **how)
@@ -118,25 +118,23 @@ def least(root: Root) -> Iterator[Case]:
 
 def linking(root: Root) -> Iterator[Case]:
     """With a C compiler: callers of both libraries."""
-    script, output = dict_of(DRAWN)
+    script, output = example(DRAWN)
     for name, linked in {"the library": "/usr/local/lib/libmt.a", "the shared library": "-lmt -Wl,-rpath,/usr/local/lib"}.items():
         built = root.run(f"gcc -Wall -Werror -o /tmp/caller embed/run.c -I /usr/local/include -L /usr/local/lib {linked}")
         yield f"a caller of {name}", built.returncode == 0 and root.prints("/tmp/caller commerce customer", output, script)
 
 
-def dict_of(name: str) -> tuple[str, str]:
+def example(name: str) -> tuple[str, str]:
     """An example's script and its output."""
     return next((script, output) for found, _, script, output in examples() if found == name)
 
 
 def with_python(root: Root) -> Iterator[Case]:
     """With Python: its library, and the tools."""
-    script, output = dict_of(DRAWN)
+    script, output = example(DRAWN)
     yield "a caller in Python", root.prints(f"PYTHONPATH=/usr/local/lib/mt python3 -c '{PYTHON}' commerce customer", output, script)
     yield "the prompt", "F2 NoTable" in root.run("mt-prompt", TYPED).stdout
-    wanted = pathlib.Path(f"{REHEARSED}.output").name
-    done = root.run(f"mt-rehearse {REHEARSED}")
-    yield "the rehearsal", done.returncode == 1 and "NOT AS PLANNED" in done.stdout and bool(wanted)
+    yield "the rehearsal", root.prints(f"mt-rehearse {REHEARSED}", (TOP / f"{REHEARSED}.output").read_text(), status=STATUS_OF_PLAN)
     yield "the picture", root.run(f"mt-picture {DRAWN} -o /tmp/page.html && cat /tmp/page.html").stdout.count("</script>") > 0
 
 
@@ -148,7 +146,7 @@ def reading(root: Root) -> Iterator[Case]:
 
 def roots(room: pathlib.Path, archive: pathlib.Path) -> Iterator[Case]:
     """Of the archive in such root folders whether all runs there."""
-    if os.geteuid() != 0 or not shutil.which("dpkg-query"):
+    if os.geteuid() != 0 or not shutil.which("dpkg-query") or not shutil.which("chroot"):
         yield "in a root folder (it takes root, and dpkg)", None
         return
     there = installed()

@@ -106,6 +106,7 @@ is_there() {
 
 # Stops if a file is in the way that no earlier install put there, or something can't be written.
 look_first() {
+    ! is_there "$root" || [ -d "$root" ] || stop "$root is no folder; nothing is installed"
     while read -r name; do
         ! is_there "$root/$name" || stop "$root/$name is there, and was not installed by this; nothing is installed"
     done < "$room/added"
