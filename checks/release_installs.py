@@ -9,7 +9,7 @@ import subprocess
 from collections.abc import Iterator
 
 from release_archives import Case, ran
-from release_unpacked import all_below, callers, prints_examples, tools_print
+from release_unpacked import Places, all_below, callers, prints_examples, tools_print
 
 NOBODY = 65534
 LIST = "share/mt/installed"
@@ -88,7 +88,7 @@ def there_and_back(room: pathlib.Path, installer: Installer) -> Iterator[Case]:
         yield f"installed, {name}", is_so
     done = ran([prefix / "bin/mt-picture", prefix / "share/mt/examples/whole_move.script"], cwd)
     yield "installed, the picture", done.returncode == 0 and (cwd / "whole_move.html").exists()
-    for name, is_so in callers(prefix, cwd, "include", "lib", "lib/mt"):
+    for name, is_so in callers(Places(prefix / "share/mt", prefix / "include", prefix / "lib", prefix / "lib/mt"), cwd):
         yield f"installed, {name}", is_so
     yield "installed, nothing is written", all_below(prefix) == before
     copy = Installer(prefix / "share/mt")

@@ -6,6 +6,7 @@ import shutil
 import subprocess
 import sys
 from collections.abc import Iterator
+from dataclasses import dataclass
 
 from known_scripts import examples
 from release_archives import TOP, Case, ran
@@ -59,27 +60,32 @@ def draws(folder: pathlib.Path, cwd: pathlib.Path, program: pathlib.Path, pictur
     yield "the picture, by node", done.returncode == 0 and (cwd / "made.svg").read_bytes() == (TOP / "docs/pictures/two_shards.svg").read_bytes()
 
 
-def callers(folder: pathlib.Path, cwd: pathlib.Path, include: str, library: str, module: str) -> Iterator[Case]:
-    """Whether a program in C that is linked with either library, and one in Python, print what the program does; places are those in the folder."""
-    script, output = folder / DRAWN, (folder / DRAWN).with_suffix(".output").read_text()
+@dataclass(frozen=True)
+class Places:
+    """Where the documents, examples and callers stand, and where the header, the libraries and the module of Python do."""
+
+    tree: pathlib.Path
+    include: pathlib.Path
+    library: pathlib.Path
+    module: pathlib.Path
+
+
+def callers(at: Places, cwd: pathlib.Path) -> Iterator[Case]:
+    """Whether a program in C that is linked with either library, and one in Python, print what the program does."""
+    script, output = at.tree / DRAWN, (at.tree / DRAWN).with_suffix(".output").read_text()
     words = ["commerce", "customer"]
-    ways = {"the library, linked": [folder / library / "libmt.a"], "the shared library": ["-L", folder / library, "-lmt", f"-Wl,-rpath,{folder / library}"]}
+    ways = {"the library, linked": [at.library / "libmt.a"], "the shared library": ["-L", at.library, "-lmt", f"-Wl,-rpath,{at.library}"]}
     for name, linked in ways.items():
         if not shutil.which("cc"):
             yield name, None
             continue
-        built = ran(["cc", "-Wall", "-Werror", "-I", folder / include, "-o", cwd / "caller", caller_in(folder), *linked], cwd)
+        built = ran(["cc", "-Wall", "-Werror", "-I", at.include, "-o", cwd / "caller", at.tree / "embed/run.c", *linked], cwd)
         with script.open() as lines:
             done = ran([cwd / "caller", *words], cwd, stdin=lines) if built.returncode == 0 else built
         yield name, (done.returncode, done.stdout) == (0, output)
     with script.open() as lines:
-        done = ran([sys.executable, "-c", PYTHON, *words], cwd, stdin=lines, env={"PYTHONPATH": str(folder / module), "PYTHONDONTWRITEBYTECODE": "1"})
+        done = ran([sys.executable, "-c", PYTHON, *words], cwd, stdin=lines, env={"PYTHONPATH": str(at.module), "PYTHONDONTWRITEBYTECODE": "1"})
     yield "the library in Python", (done.returncode, done.stdout) == (0, output)
-
-
-def caller_in(folder: pathlib.Path) -> pathlib.Path:
-    """The caller in C, in the unpacked folder or in an installation."""
-    return next(it for it in (folder / "embed/run.c", folder / "share/mt/embed/run.c") if it.exists())
 
 
 def runs(room: pathlib.Path, folder: pathlib.Path, program: pathlib.Path) -> Iterator[Case]:
@@ -91,6 +97,6 @@ def runs(room: pathlib.Path, folder: pathlib.Path, program: pathlib.Path) -> Ite
     tools = folder / "tools"
     for name, is_so in (*tools_print(folder, cwd, program, tools / "prompt", tools / "rehearse"), *draws(folder, cwd, program, tools / "picture")):
         yield f"unpacked, {name}", is_so
-    for name, is_so in callers(folder, cwd, "include", "lib", "lib"):
+    for name, is_so in callers(Places(folder, folder / "include", folder / "lib", folder / "lib"), cwd):
         yield f"unpacked, {name}", is_so
     yield "unpacked, nothing is written", all_below(folder) == before
