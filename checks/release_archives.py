@@ -1,6 +1,7 @@
 """The archives that `tools/release` makes: their bytes, what they hold, and what RELEASE says in them."""
 from __future__ import annotations
 
+import ctypes
 import hashlib
 import os
 import pathlib
@@ -12,7 +13,7 @@ from collections.abc import Iterator
 from typing import Optional
 
 TOP = pathlib.Path(__file__).resolve().parent.parent
-BUILT = ("out/libmt.a", "out/libmt.so", "out/mt.html")
+BUILT = ("out/libmt.a", "out/libmt.so", "out/mt.wasm", "out/mt.html")
 PROVED = "crates/mt_program/out/mt_program"
 DATE = 1_790_000_000
 SHOWN = 60  # lines of a fault
@@ -129,6 +130,14 @@ def same_bytes(room: pathlib.Path, copy: Copy, made: pathlib.Path, program: path
     yield "another commit makes others", changed is not None and changed.read_bytes() != made.read_bytes()
 
 
+def versions(made: pathlib.Path, library: pathlib.Path) -> bool:
+    """Whether the archive, the newest heading of CHANGELOG.md and the library have the same version."""
+    told = ctypes.CDLL(str(library)).mt_version()
+    version = f"{told // 1_000_000}.{told // 1000 % 1000}.{told % 1000}"
+    heading = re.search(r"^## (.*)$", (TOP / "CHANGELOG.md").read_text(), re.M)[1]
+    return version == heading == said_in(made)["version"] and made.name == f"mt-{version}-x86_64-linux.tar.gz"
+
+
 def what_is_told(room: pathlib.Path, copy: Copy, made: pathlib.Path) -> Iterator[Case]:
     """What RELEASE says, of the tests above all."""
     said = said_in(made)
@@ -194,6 +203,7 @@ def archives(room: pathlib.Path, copy: Copy, made: pathlib.Path, program: pathli
     folder = unpack(made, room / "for sums")
     yield "it has the sums of its files", has_sums(folder)
     yield "its program is the one", (folder / "bin/mt").read_bytes() == program.read_bytes()
+    yield "its version is that of the library", versions(made, folder / "lib/libmt.so")
     yield from same_bytes(room, copy, made, program)
     yield from what_is_told(room, copy, made)
     yield from refusals(room, copy, program)

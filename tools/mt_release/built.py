@@ -1,6 +1,6 @@
-"""What is built of these sources, made anew where that is due.
+"""What is built of these sources: `./mt` and `tools/build` make it where that is due, and of the program and the library it is told here whether it is proved.
 
-A file is due if it isn't there or a source is newer, as `./mt` takes a program to be.
+That is so if a proof run left it and no source is newer, by which those two go as well.
 """
 from __future__ import annotations
 
@@ -16,8 +16,6 @@ PROVED_PROGRAM = "crates/mt_program/out/mt_program"
 UNPROVED_PROGRAM = "out/mt_unproved"
 PROVED_LIBRARY = "crates/mt/out/libmt.a"
 ARCHIVED, SHARED, PAGE = "out/libmt.a", "out/libmt.so", "out/mt.html"
-LIBRARY_SOURCES = (*CODE, BUILDER, "tools/library.py")
-PAGE_SOURCES = (*LIBRARY_SOURCES, "tools/wasm.py", "page", "examples", "docs/SCRIPT.md")
 
 
 class NotBuilt(Exception):
@@ -58,24 +56,22 @@ def program(top: pathlib.Path) -> Built:
     raise NotBuilt("a source was changed while the program was built")
 
 
-def made(top: pathlib.Path, target: str, names: Iterable[str], sources: tuple[str, ...]) -> None:
-    """Has a target of tools/build made, if one of its files is due."""
-    if not all(is_new(top, name, sources) for name in names):
-        done(top, ["tools/build", target])
+def made(top: pathlib.Path, target: str, *names: str) -> None:
+    """Has a target of tools/build made, of these files, as far as that is due."""
+    done(top, ["tools/build", target])
     for name in names:
-        if not is_new(top, name, sources):
+        if not is_new(top, name, CODE):
             raise NotBuilt(f"tools/build {target} made no {name}, or a source was changed meanwhile")
 
 
 def libraries(top: pathlib.Path) -> tuple[Built, Built]:
-    """The library to link, and the shared one. They are made of the proved library if there is one and no source is newer."""
-    is_proved = is_new(top, PROVED_LIBRARY, CODE)
-    made(top, "library", (ARCHIVED, SHARED), (*LIBRARY_SOURCES, *([PROVED_LIBRARY] if is_proved else [])))
-    how = PROVED if is_proved else UNPROVED
+    """The library to link, and the shared one."""
+    how = PROVED if is_new(top, PROVED_LIBRARY, CODE) else UNPROVED
+    made(top, "library", ARCHIVED, SHARED)
     return Built(top / ARCHIVED, how), Built(top / SHARED, how)
 
 
 def page(top: pathlib.Path) -> Built:
     """The page. Its module is compiled in a way that no proof covers."""
-    made(top, "page", (PAGE,), PAGE_SOURCES)
+    made(top, "page", PAGE)
     return Built(top / PAGE, UNPROVED)
