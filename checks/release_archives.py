@@ -30,9 +30,9 @@ def ran(words: list[object], cwd: pathlib.Path, **how: object) -> subprocess.Com
 class Copy:
     """A copy of this repository's files that is a repository with one commit. What is built of it has the time of now."""
 
-    def __init__(self, at: pathlib.Path, program: pathlib.Path) -> None:
+    def __init__(self, at: pathlib.Path, program: pathlib.Path, of: pathlib.Path = TOP) -> None:
         self.at = at
-        shutil.copytree(TOP, at, ignore=shutil.ignore_patterns(".git", "out"), symlinks=True)
+        shutil.copytree(of, at, ignore=shutil.ignore_patterns(".git", "out"), symlinks=True)
         self.git("init", "--quiet")
         self.git("add", "--all")
         self.commit()
@@ -121,7 +121,7 @@ def same_bytes(room: pathlib.Path, copy: Copy, made: pathlib.Path, program: path
     strange = {**os.environ, "TZ": "Asia/Kathmandu", "LC_ALL": "C", "PYTHONHASHSEED": "7"}
     again = copy.release(room / "again", cwd=room, env=strange, umask=0o077)
     yield "another user makes the same bytes", again is not None and again.read_bytes() == made.read_bytes()
-    other = Copy(room / "another place" / "a copy", program)
+    other = Copy(room / "another place" / "a copy", program, copy.at)
     other_made = other.release(room / "other")
     yield "another place makes the same bytes", other_made is not None and other_made.read_bytes() == made.read_bytes()
     (other.at / "README.md").write_text("# another\n")
