@@ -24,6 +24,7 @@ COMPLETED = {
     ("mt", "race", ""): "--clients --writes --help -h",
     ("mt", "race", "--w"): "--writes",
     ("mt", "race", "--clients", ""): "1 2 3 4",
+    ("mt", "race", "--clients", "="): "1 2 3 4",
     ("mt", "race", "--clients", "=", "3"): "3",
     ("mt", "race", "--writes", ""): "",
     ("mt", "race", "--clients", "2", "--"): "--writes --help",
@@ -36,6 +37,7 @@ COMPLETED = {
     ("mt", "help", "t"): "topology",
     ("mt", "help", "run", ""): "",
     ("mt", "unknown", ""): "",
+    ("mt", "run", "<"): "(default)",
     ("mt", "run", "<", ""): "(default)",
     ("mt", "race", ">", "o"): "(default)",
     ("mt-prompt", ""): "",
@@ -46,6 +48,7 @@ COMPLETED = {
     ("mt-rehearse", "--js"): "--json",
     ("mt-rehearse", "--json", "--js"): "",
     ("mt-rehearse", "--script", ""): "(default)",
+    ("mt-rehearse", "--script", "=", "a"): "(default)",
     ("mt-rehearse", "do"): "(filenames) docs",
     ("/usr/local/bin/mt-rehearse", "--ru"): "--rules",
 }

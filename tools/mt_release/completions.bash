@@ -1,16 +1,33 @@
 # Completions of bash for mt, and for the tools that are installed beside it. A keyspace is a script's own word: none is offered.
 
-# Offers these words, as far as they go on with what is typed.
-_mt_offer() {
-    mapfile -t COMPREPLY < <(compgen -W "$*" -- "${COMP_WORDS[COMP_CWORD]}")
+# Sets what is typed of the word, and the word before. Bash takes a = for a word of its own.
+_mt_words() {
+    cur=${COMP_WORDS[COMP_CWORD]}
+    prev=${COMP_WORDS[COMP_CWORD - 1]}
+    if [ "$cur" = = ]; then
+        cur=
+    elif [ "$prev" = = ]; then
+        prev=${COMP_WORDS[COMP_CWORD - 2]}
+    fi
 }
 
-# Whether a redirection stands before the word, which then is a file.
+# Offers these words, as far as they go on with what is typed.
+_mt_offer() {
+    mapfile -t COMPREPLY < <(compgen -W "$*" -- "$cur")
+}
+
+# Whether the word stands behind a redirection, and so is a file.
 _mt_is_redirected() {
-    case ${COMP_WORDS[COMP_CWORD - 1]} in
-    '<' | '>' | '>>' | '>|' | '&>' | '<>') compopt -o default ;;
-    *) return 1 ;;
-    esac
+    local word
+    for word in "$prev" "$cur"; do
+        case $word in
+        '<' | '>' | '>>' | '>|' | '&>' | '<>')
+            compopt -o default
+            return 0
+            ;;
+        esac
+    done
+    return 1
 }
 
 # Whether a word stands before the one that is completed.
@@ -32,17 +49,16 @@ _mt_options() {
 }
 
 _mt() {
-    local cur=${COMP_WORDS[COMP_CWORD]} prev=${COMP_WORDS[COMP_CWORD - 1]}
+    local cur prev
     COMPREPLY=()
+    _mt_words
     _mt_is_redirected && return
     if [ "$COMP_CWORD" = 1 ]; then
         _mt_offer run rules topology race help --help -h
         return
     fi
-    # bash takes a = for a word of its own
-    [ "$prev" = = ] && prev=${COMP_WORDS[COMP_CWORD - 2]}
     case ${COMP_WORDS[1]}:$prev in
-    race:--clients) [ "$cur" = = ] || _mt_offer 1 2 3 4 ;;
+    race:--clients) _mt_offer 1 2 3 4 ;;
     race:--writes) ;;
     race:*) _mt_has -- || _mt_options --clients --writes --help -h ;;
     help:help) _mt_offer run rules topology race help ;;
@@ -50,10 +66,10 @@ _mt() {
     esac
 }
 
-# The tools: prev is an option whose file, or folder, comes next.
 _mt_tool() {
-    local cur=${COMP_WORDS[COMP_CWORD]} prev=${COMP_WORDS[COMP_CWORD - 1]}
+    local cur prev
     COMPREPLY=()
+    _mt_words
     _mt_is_redirected && return
     case $prev in
     --mt | --script | --picture | --svg | --facts | --answers | --output | -o)
