@@ -143,17 +143,17 @@ def what_is_told(room: pathlib.Path, copy: Copy, made: pathlib.Path) -> Iterator
     said = said_in(made)
     head = copy.git("rev-parse", "HEAD")
     kit = ran(["rt", "version"], room).stdout.strip() if shutil.which("rt") else "not known"
-    yield "RELEASE has the commit and the kit", (said["commit"], said["kit"], said["date"]) == (head, kit, "2026-09-21")
-    yield "RELEASE has what is proved", said["bin/mt"] == "proved" and said["lib/libmt.a"] == "built without running the proofs"
+    yield "RELEASE has the commit and the kit", (said["commit"], said["kit"], said["date"]) == (head, f"{kit}, as this was packed", "2026-09-21")
+    yield "RELEASE has what is proved", said["bin/mt"].startswith("proved") and said["lib/libmt.a"] == "built without running the proofs"
     yield "of tests nothing is known", said["tests"] == "not known" and said["tree"] == "as the commit has it"
     gate, sums = copy.at / "out/gate", hashlib.sha256((copy.at / PROVED).read_bytes()).hexdigest()
     text = f"commit {head}\nkit some kit\nprogram {sums}\ntests 7 passed, 0 failed\n"
     gate.write_text(text)
     said = copy.says(room / "passed")
     yield "tests that passed", said["tests"] == "passed on this commit, with the kit some kit: 7 passed, 0 failed"
-    yield "the program of the tests", said["bin/mt"] == "proved; the one that these tests built and ran"
+    yield "the program of the tests", said["bin/mt"].startswith("proved") and said["bin/mt"].endswith("; the one that these tests built and ran")
     gate.write_text(text.replace(sums, "0" * 64))
-    yield "another program than that of the tests", copy.says(room / "other_program")["bin/mt"] == "proved"
+    yield "another program than that of the tests", "these tests" not in copy.says(room / "other_program")["bin/mt"]
     for name, other in (("another commit", text.replace(head, "0" * 40)), ("a cut verdict", text[:-30]), ("an empty one", "")):
         gate.write_text(other)
         yield f"the verdict of {name}", copy.says(room / name)["tests"] == "not known"

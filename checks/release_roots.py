@@ -76,9 +76,16 @@ def make_root(root: pathlib.Path, names: list[str], archive: pathlib.Path) -> No
     copy_packages(root, names)
     if not (root / "bin/sh").exists():
         (root / "bin/sh").symlink_to("dash")
-    os.mknod(root / "dev/null", stat.S_IFCHR | 0o666, NULL)
-    (root / "dev/null").chmod(0o666)
+    try:
+        os.mknod(root / "dev/null", stat.S_IFCHR | 0o666, NULL)
+    except PermissionError:  # root in a container; a file does
+        (root / "dev/null").touch()
     subprocess.run(["tar", "xzf", archive, "-C", root / FOLDER.lstrip("/"), "--strip-components=1"], check=True)
+
+
+def may_change_root(room: pathlib.Path) -> bool:
+    """Whether whoever runs this may run chroot."""
+    return bool(shutil.which("chroot")) and ran(["chroot", "/", "/bin/true"], room).returncode == 0
 
 
 class Root:
@@ -146,8 +153,8 @@ def reading(root: Root) -> Iterator[Case]:
 
 def roots(room: pathlib.Path, archive: pathlib.Path) -> Iterator[Case]:
     """Of the archive in such root folders whether all runs there."""
-    if os.geteuid() != 0 or not shutil.which("dpkg-query") or not shutil.which("chroot"):
-        yield "in a root folder (it takes root, and dpkg)", None
+    if not shutil.which("dpkg-query") or not may_change_root(room):
+        yield "in a root folder, which takes dpkg, and a user that may run chroot", None
         return
     there = installed()
     root = Root(room / "least")

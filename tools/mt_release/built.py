@@ -9,7 +9,7 @@ import subprocess
 from collections.abc import Iterable
 from dataclasses import dataclass
 
-PROVED, UNPROVED = "proved", "built without running the proofs"
+PROVED, UNPROVED = "proved: a proof run left it, and no source is newer", "built without running the proofs"
 CODE = ("crates/*/src", "crates/*/specs", "crates/*/proofs", "crates.txt")
 BUILDER = "tools/unproved.py"
 PROVED_PROGRAM = "crates/mt_program/out/mt_program"

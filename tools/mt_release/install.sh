@@ -18,7 +18,8 @@ which mt runs. What was installed there before is replaced. Any other file is no
 
 With DESTDIR in the environment, an absolute path, all goes below DESTDIR/PREFIX, which is made, for who makes a package of it.
 PREFIX/share/mt/installed lists each file, and each folder that had to be made; --uninstall takes away these. PREFIX/share/mt/install.sh can do
-that too. A program that is linked with libmt.so finds it in /usr/local/lib once ldconfig was run.
+that too. A program that is linked with libmt.so finds it in /usr/local/lib once ldconfig was run. mt-prompt, mt-rehearse and mt-picture need
+Python 3.9 or newer.
 END
 }
 

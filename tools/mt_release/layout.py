@@ -76,7 +76,7 @@ def needed(program: pathlib.Path) -> str:
     found = [(int(major), int(minor)) for major, minor in GLIBC.findall(program.read_bytes())]
     if not found:
         raise CannotPack(f"{program} names no version of the C library that it needs")
-    return "Linux on x86-64, with glibc {}.{} or newer".format(*max(found))
+    return "Linux on x86-64, with glibc {}.{} or newer; the tools Python 3.9 or newer".format(*max(found))
 
 
 def origin_text(release: Release) -> str:
@@ -92,7 +92,7 @@ def origin_text(release: Release) -> str:
         "date": commit.day,
         "tree": "as the commit has it" if commit.is_clean else "CHANGED since the commit, so that nobody can build it anew",
         "tests": passed,
-        "kit": kit(),
+        "kit": f"{kit()}, as this was packed",
         "needs": needed(release.program.path),
         PROGRAM: program,
         ARCHIVED: release.archived.how,
