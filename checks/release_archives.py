@@ -178,7 +178,7 @@ def refusals(room: pathlib.Path, copy: Copy, program: pathlib.Path) -> Iterator[
     copy.commit()
     yield "no version", copy.is_refused(room / "refused", "is no version")
     changes.write_text(re.sub(r"^## .*$", "## 9.9.9", text, count=1, flags=re.M))
-    (copy.at / "crates/mt/src/version.rt").write_text('pub const VERSION: &str = "9.9.8";\n')
+    (copy.at / "crates/mt/src/version.rt").write_text("pub const VERSION: [i32; 3] = [9, 9, 8];\n")
     copy.git("add", "--all")
     copy.commit()
     yield "two versions", copy.is_refused(room / "refused", "says 9.9.8")

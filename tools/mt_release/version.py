@@ -6,7 +6,7 @@ import re
 
 SOURCE = "crates/mt/src/version.rt"
 CHANGES = "CHANGELOG.md"
-IN_SOURCE = re.compile(r'^pub const VERSION: &str = "(\d+\.\d+\.\d+)";$', re.M)
+IN_SOURCE = re.compile(r"^pub const VERSION: \[i32; 3\] = \[(\d+), (\d+), (\d+)\];$", re.M)
 HEADING = re.compile(r"^## (.*)$", re.M)
 NUMBERS = re.compile(r"\d+\.\d+\.\d+")
 
@@ -29,7 +29,8 @@ def version_of(top: pathlib.Path) -> str:
     source = top / SOURCE
     if not source.exists():
         return heading
-    said = IN_SOURCE.search(source.read_text(encoding="utf-8"))
-    if not said or said[1] != heading:
-        raise NoVersion(f"{SOURCE} says {said[1] if said else 'no version'}, and the newest heading of {CHANGES} {heading}")
+    found = IN_SOURCE.search(source.read_text(encoding="utf-8"))
+    said = ".".join(found.groups()) if found else "no version"
+    if said != heading:
+        raise NoVersion(f"{SOURCE} says {said}, and the newest heading of {CHANGES} {heading}")
     return heading
