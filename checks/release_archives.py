@@ -12,6 +12,8 @@ import tarfile
 from collections.abc import Iterator
 from typing import Optional
 
+from mt_release.origin import commit_of, gate_of
+
 TOP = pathlib.Path(__file__).resolve().parent.parent
 BUILT = ("out/libmt.a", "out/libmt.so", "out/mt.wasm", "out/mt.html")
 PROVED = "crates/mt_program/out/mt_program"
@@ -152,16 +154,17 @@ def what_is_told(room: pathlib.Path, copy: Copy, made: pathlib.Path) -> Iterator
     said = copy.says(room / "passed")
     yield "tests that passed", said["tests"] == "passed on this commit, with the kit some kit: 7 passed, 0 failed"
     yield "the program of the tests", said["bin/mt"].startswith("proved") and said["bin/mt"].endswith("; the one that these tests built and ran")
-    gate.write_text(text.replace(sums, "0" * 64))
-    yield "another program than that of the tests", "these tests" not in copy.says(room / "other_program")["bin/mt"]
+    yield "the verdict is read", gate_of(copy.at, commit_of(copy.at))["tests"] == "7 passed, 0 failed"
     for name, other in (("another commit", text.replace(head, "0" * 40)), ("a cut verdict", text[:-30]), ("an empty one", "")):
         gate.write_text(other)
-        yield f"the verdict of {name}", copy.says(room / name)["tests"] == "not known"
-    gate.write_text(text)
+        yield f"the verdict of {name}", gate_of(copy.at, commit_of(copy.at)) == {}
+    gate.write_text(text.replace(sums, "0" * 64))
     (copy.at / "untracked").touch()
     said = copy.says(room / "dirty", "--dirty")
     yield "a work tree that differs, packed", said["tree"].startswith("CHANGED") and said["tests"] == "not known"
     (copy.at / "untracked").unlink()
+    said = copy.says(room / "other_program")
+    yield "another program than that of the tests", said["tests"] != "not known" and "these tests" not in said["bin/mt"]
     gate.unlink()
 
 
