@@ -3,7 +3,6 @@ from __future__ import annotations
 
 import pathlib
 import shutil
-import subprocess
 import sys
 from collections.abc import Iterator
 from dataclasses import dataclass

@@ -10,7 +10,7 @@ from dataclasses import dataclass
 
 from mt_release.built import Built
 from mt_release.manual import CommandLine, manual
-from mt_release.origin import KEYS, NOT_KNOWN, Commit, checksum, files_of, gate_of, kit
+from mt_release.origin import NOT_KNOWN, Commit, checksum, files_of, gate_of, kit
 
 # What is packed as it stands in the repository; of it the folders with all that git knows there.
 COPIED = (
