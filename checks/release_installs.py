@@ -6,6 +6,7 @@ import pathlib
 import shutil
 import stat
 import subprocess
+import sys
 from collections.abc import Iterator
 
 from release_archives import Case, ran
@@ -91,6 +92,8 @@ def there_and_back(room: pathlib.Path, installer: Installer) -> Iterator[Case]:
     for name, is_so in callers(Places(prefix / "share/mt", prefix / "include", prefix / "lib", prefix / "lib/mt"), cwd):
         yield f"installed, {name}", is_so
     yield "installed, nothing is written", all_below(prefix) == before
+    ran([sys.executable, "-c", "import mt"], cwd, env={"PYTHONPATH": str(prefix / "lib/mt")})
+    yield "Python keeps something of its module", (prefix / "lib/mt/__pycache__").is_dir()
     copy = Installer(prefix / "share/mt")
     yield "its own copy installs nothing", copy.is_refused(prefix.parent, "isn't an unpacked archive", room / "a prefix/other")
     yield "its own copy takes all away", copy.is_done("--uninstall", prefix) and all_below(prefix.parent) == {}

@@ -181,6 +181,9 @@ uninstall_all() {
     comm -23 "$room/old" "$room/own" > "$room/gone"
     remove "$room/gone"
     rm -f "$root/share/mt/installing" "$root/share/mt/installed"
+    # what Python keeps of the module, where it may write
+    rm -f "$root"/lib/mt/__pycache__/mt.*.pyc
+    [ ! -d "$root/lib/mt/__pycache__" ] || rmdir --ignore-fail-on-non-empty "$root/lib/mt/__pycache__"
     while read -r name; do
         # (./ has to be named otherwise, as rmdir takes no dot at the end)
         [ ! -d "$root/$name" ] || rmdir --ignore-fail-on-non-empty "$root/${name#./}"
