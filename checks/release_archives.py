@@ -188,11 +188,9 @@ def refusals(room: pathlib.Path, copy: Copy, program: pathlib.Path) -> Iterator[
     copy.git("reset", "--quiet", "--hard", "HEAD~2")
     copy.put_built(program)
     without = {**os.environ, "PATH": f"{pathlib.Path(shutil.which('git')).parent}:/usr/bin:/bin"}
-    (copy.at / "crates/mt_names/src/lib.rt").touch()
-    yield "a source that is newer, and no kit", copy.is_refused(room / "refused", "./mt help ended", env=without)
+    os.utime(copy.at / PROVED, (DATE, DATE))
+    yield "sources that are newer, and no kit", copy.is_refused(room / "refused", "./mt help ended", env=without)
     shutil.copy(program, copy.at / "out/mt_unproved")
-    for name in BUILT:
-        (copy.at / name).touch()
     yield "a program that isn't proved", copy.says(room / "unproved")["bin/mt"] == "built without running the proofs"
     shutil.copy("/bin/true", copy.at / "out/mt_unproved")
     yield "another program", copy.is_refused(room / "refused", "isn't mt")
