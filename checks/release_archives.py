@@ -188,7 +188,7 @@ def refusals(room: pathlib.Path, copy: Copy, program: pathlib.Path) -> Iterator[
     copy.git("reset", "--quiet", "--hard", "HEAD~2")
     copy.put_built(program)
     without = {**os.environ, "PATH": f"{pathlib.Path(shutil.which('git')).parent}:/usr/bin:/bin"}
-    os.utime(copy.at / PROVED, (DATE, DATE))
+    os.utime(copy.at / PROVED, (1, 1))
     yield "sources that are newer, and no kit", copy.is_refused(room / "refused", "./mt help ended", env=without)
     shutil.copy(program, copy.at / "out/mt_unproved")
     yield "a program that isn't proved", copy.says(room / "unproved")["bin/mt"] == "built without running the proofs"
