@@ -126,10 +126,6 @@ def same_bytes(room: pathlib.Path, copy: Copy, made: pathlib.Path, program: path
     other = Copy(room / "another place" / "a copy", program, copy.at)
     other_made = other.release(room / "other")
     yield "another place makes the same bytes", other_made is not None and other_made.read_bytes() == made.read_bytes()
-    (other.at / "README.md").write_text("# another\n")
-    other.commit()
-    changed = other.release(room / "changed")
-    yield "another commit makes others", changed is not None and changed.read_bytes() != made.read_bytes()
 
 
 def versions(made: pathlib.Path, library: pathlib.Path) -> bool:

@@ -32,12 +32,11 @@ class Built:
 
 def is_new(top: pathlib.Path, name: str, sources: Iterable[str]) -> bool:
     """Whether a file is there, and no source is newer; a source is a file or all of a folder, the folder's own time too."""
-    file = top / name
-    if not file.exists():
+    if not (top / name).exists():
         return False
-    found = [path for pattern in sources for path in top.glob(pattern)]
-    found += [below for path in found for below in path.rglob("*")]
-    return all(path.stat().st_mtime_ns <= file.stat().st_mtime_ns for path in found)
+    found = [path for pattern in sources for path in sorted(top.glob(pattern))]
+    newer = subprocess.run(["find", *found, "-newer", top / name, "-print", "-quit"], stdout=subprocess.PIPE, check=True)
+    return not newer.stdout
 
 
 def done(top: pathlib.Path, words: list[str]) -> None:

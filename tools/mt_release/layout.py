@@ -116,7 +116,7 @@ def put(folder: pathlib.Path, name: str, source: pathlib.Path) -> None:
 def lay_out(release: Release, folder: pathlib.Path) -> None:
     """Puts all that is packed into an empty folder. Raises `CannotPack`, `OSError`."""
     top = release.top
-    missing = [path for path in (*COPIED, *RENAMED) if not files_of(top, (path,))]
+    missing = [path for path in (*COPIED, *RENAMED) if not (top / path).exists()]
     if missing:
         raise CannotPack(f"there is no {missing[0]}")
     for name in files_of(top, COPIED):
