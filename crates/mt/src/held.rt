@@ -22,8 +22,9 @@ impl Model for Held {
     ghost use Rattle.mt.specs.Sessions.{HasSaid};
     ghost use Rattle.mt.specs.Held.{held};
     ghost use Rattle.mt.specs.contracts.session.Session.{the_row};
+    ghost use Rattle.std.specs.contracts.impls.GlobalAllocator.TheImpl.{ghosts};
 
-    ghost also_owns = { λ h. held the_row (HasSaid h.scopes h.lines h.out) h.at h.full };
+    ghost also_owns = { λ h. held ghosts.dealloc_token the_row (HasSaid h.scopes h.lines h.out) h.at h.full };
 }
 
 impl Held {

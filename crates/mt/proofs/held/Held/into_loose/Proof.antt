@@ -44,7 +44,7 @@ into_loose_spec 𝓤 𝓛 𝓜 𝓡 wired =
     proved_at 𝓛 En hs c 𝓜 𝓡 (Goes-blank 𝓛 0 (plain (λ _. handle.the_row)) yes (λ κs x f. tt), (Goes-blank 𝓛 0 (plain (λ _. Z)) yes (λ κs x f. tt), tt)) #self fn (code.unfolded 𝓤 H 𝓜 𝓡 wired) (λ z are.
     let v = z.0.3.0 in let a = z.0.3.1.0 in let Post : Val → SProp 𝓤 = (walk_of 𝓛 En hs c).post z in let Run : List Val → SProp 𝓤 = λ ws. WpFn 𝓤 H 𝓣.C 𝓣.Λ fn ws Post in
     qed 𝓛 ((‵ ftrue ⊛ ‵ (owns (types_at En.signature.params z.0.0) z.0.3 z.0.4)) ∷ raw (fact 𝓤 (v.full ≡ true)) ∷ []) ∵ move ! (1 ∷ []) $ heard ! (v.full ≡ true) (λ is. split ! $ move ! (1 ∷ []) $
-    fsplit ! $ fsplit ! $ drop ! $ rewrite ! 0 (λ (y : Bool). ‵ (held R (HasSaid v.scopes v.lines v.out) v.at y)) is refl $ fpick ! (λ it. let x = it.0 in
+    fsplit ! $ fsplit ! $ drop ! $ rewrite ! 0 (λ (y : Bool). ‵ (held ghosts.dealloc_token R (HasSaid v.scopes v.lines v.out) v.at y)) is refl $ fpick ! (λ heap. fpick ! (λ it. let x = it.0 in
     in_a_block ! v.at (λ q. box_owns (ghosts.dealloc_token a) R q x) (fst∗ 𝓤 (never 𝓤) (sem 𝓛 (ghosts.dealloc_token a (bare (lone R.mir)) null_ptr))) (λ b o e. move ! (1 ∷ []) $ fsplit ! $
     handle_tells (al R Z LZ ghosts) ! a z.0.4.1.0 (λ h eh fits.
     let p : Ptr = block_ptr b o in let us : List Val = held_of p ∷ h ∷ [] in let at_p : z.0.4.0 ≡ held_of p ∷ [] = held_told v.at z.0.4.0 are.0.0 ∙ ap (λ (q : Ptr). held_of q ∷ []) e in let Told : Type 0 = HasSaid v.scopes v.lines v.out x in
@@ -55,4 +55,4 @@ into_loose_spec 𝓤 𝓛 𝓜 𝓡 wired =
     sets ! (agg ! (and_then ! (get ! refl) (and_then ! (get ! refl) (no_more !)))) refl (loose_good R Z LZ ghosts b o h fits) $
     move ! (2 ∷ 0 ∷ []) $ loose_in R Z LZ ghosts ! b o h a x $
     use0 𝓛 (raw (fact 𝓤 Told)) (fact_i 𝓤 Told (emp 𝓤) it.1) $ nothing ! $ nothing ! $ fjoin ! $ nothing ! $ fjoin ! $
-    returns ! (look_at ! 0 refl) $ free_all ! refl $ keep ! (4 ∷ 0 ∷ 2 ∷ 1 ∷ []) $ by ! (leaves 𝓛 En hs c z (both (vptr b o) h) (record { at = p; alloc = a; value = x }) (tt, (tt, tt)) (tt, (tt, tt)))))))))
+    returns ! (look_at ! 0 refl) $ free_all ! refl $ keep ! (4 ∷ 0 ∷ 2 ∷ 1 ∷ []) $ by ! (leaves 𝓛 En hs c z (both (vptr b o) h) (record { at = p; alloc = a; value = x }) (tt, (tt, tt)) (tt, (tt, tt))))))))))

@@ -2,7 +2,7 @@
 use Rattle.std.proofs.Common.{◌≡◌, List, [], ◌∷◌, ◌++◌, refl, sym, subst}
 use mir.Val.{Val, vptr}
 use base.Logic.{SProp, ent, emp, id⊢}
-use base.Fml.{ftrue}
+use base.Fml.{fex, ftrue}
 use prog.Wp.{WpFn}
 use types.Kit.{‵, raw, ◌⊛◌, ◌$◌, ◌∵◌, !, qed, by, move, keep, split, fsplit, fjoin, fpack, suffices, use0}
 use types.Run.{stop, fld, of_opd, no_more, and_then, returns, enter}
@@ -18,7 +18,6 @@ use denote.Steps.{nothing}
 use denote.Triple.Walked.{Stays, stay_dropped, walk_of}
 use Rattle.core.proofs.alloc.Calls.{Goes-blank}
 use Rattle.std.specs.Prelude.{Bool, true}
-use Rattle.libc.specs.Heap.{chunk}
 use Rattle.std.specs.Box.Ownership.{box_owns}
 use Rattle.std.specs.contracts.alloc.Global as heap
 use Rattle.std.proofs.alloc.Global.TheLaws as heap_laws
@@ -46,7 +45,8 @@ of_spec 𝓤 𝓛 𝓜 𝓡 wired =
     sets ! (of_opd ! (get_in ! (fld ! refl (stop !)) (sub ! 0 refl (whole !)))) refl (tt, tt) $
     sets ! (of_opd ! (get ! refl)) refl (tt, tt) $
     sets ! (agg ! (and_then ! (get ! refl) (no_more !))) refl (tt, (tt, tt)) $
-    fpack ! ((y : R.Denot) × HasSaid (scopes_of x) x.said.lines x.said.out y) (λ it. box_owns (λ ty ptr. chunk ty ptr) R p it.0) (x, (refl, refl, refl)) $
+    fpack ! ((y : R.Denot) × HasSaid (scopes_of x) x.said.lines x.said.out y) (λ it. box_owns (ghosts.dealloc_token v.alloc) R p it.0) (x, (refl, refl, refl)) $
+    fpack ! Z.Denot (λ heap. fex ((y : R.Denot) × HasSaid (scopes_of x) x.said.lines x.said.out y) (λ it. box_owns (ghosts.dealloc_token heap) R p it.0)) v.alloc $
     use0 𝓛 (‵ (HeldData.own_val (p, tt) (held_of p ∷ []))) (held_made 𝓛 p) $ fjoin ! $
     use0 𝓛 (raw (fact 𝓤 Told)) (fact_i 𝓤 Told (emp 𝓤) (refl, (refl, refl, refl))) $ nothing ! $ nothing ! $ fjoin ! $
     returns ! (look_at ! 0 refl) $ free_all ! refl $ keep ! (5 ∷ 0 ∷ 2 ∷ 1 ∷ []) $ by ! (leaves 𝓛 En hs c z (held_of p) (record { at = p; full = full; scopes = scopes_of x; lines = x.said.lines; out = x.said.out }) (tt, tt) (tt, tt)))))
