@@ -210,7 +210,7 @@ def killed(room: pathlib.Path, installer: Installer) -> Iterator[Case]:
     at, count, tools = room / "killed", room / "count", room / "tools"
     tools.mkdir()
     files = len((installer.folder / "SHA256SUMS").read_text().splitlines())
-    moments = {"cp": (1, 2, 3, files // 2, files + 1), "mv": (1, 2, files + 2), "ln": (4,), "mkdir": (1,)}
+    moments = {"cp": (1, 2, files // 2, files + 1), "mv": (1, 2), "ln": (4,)}
     for number, (command, moment) in enumerate((it, moment) for it in moments for moment in moments[it]):
         at.mkdir()
         count.write_text("")

@@ -29,7 +29,7 @@ def pack(folder: pathlib.Path, time: int, archive: pathlib.Path) -> None:
     handle, made = tempfile.mkstemp(dir=archive.parent, prefix=f".{archive.name}.")
     try:
         with os.fdopen(handle, "wb") as file:
-            with gzip.GzipFile("", "wb", 9, file, mtime=0) as packed, tarfile.open(fileobj=packed, mode="w", format=tarfile.USTAR_FORMAT) as tar:
+            with gzip.GzipFile("", "wb", 6, file, mtime=0) as packed, tarfile.open(fileobj=packed, mode="w", format=tarfile.USTAR_FORMAT) as tar:
                 for path in paths:
                     info = entry(path, str(path.relative_to(folder.parent)), time)
                     if info.isreg():
