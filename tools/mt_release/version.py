@@ -26,10 +26,7 @@ def newest_heading(top: pathlib.Path) -> str:
 def version_of(top: pathlib.Path) -> str:
     """The version that the library's source says, which the newest heading of CHANGELOG.md has to say too. Raises `NoVersion` otherwise."""
     heading = newest_heading(top)
-    source = top / SOURCE
-    if not source.exists():
-        return heading
-    found = IN_SOURCE.search(source.read_text(encoding="utf-8"))
+    found = IN_SOURCE.search((top / SOURCE).read_text(encoding="utf-8"))
     said = ".".join(found.groups()) if found else "no version"
     if said != heading:
         raise NoVersion(f"{SOURCE} says {said}, and the newest heading of {CHANGES} {heading}")
