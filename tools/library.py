@@ -1,7 +1,7 @@
 """The library for other programs: libmt.a, which a C program links, and libmt.so, which one loads. docs/EMBED.md says how both are used.
 
-They are made of the archive that `rt lib` leaves in crates/mt where it has proved that crate, or of the module of the same sources without running
-the proofs (unproved.py says how that is made). Either way the parts of the kit's C that it calls are put into the archive, so that one file is
+They are made of an archive of crates/mt that is proved, by `rt lib` or here over the libraries that a gate left; or of the module of the same sources
+without running the proofs (unproved.py says how that is made). Either way the parts of the kit's C that it calls are put into the archive, so that one file is
 linked, and the shared object shows its exports alone.
 """
 import re
@@ -35,6 +35,37 @@ def module_of(top, own, room):
 def flags_of(room):
     """The kit's flags for such a module."""
     return [it for it in (room / "flags").read_text().splitlines() if it.startswith("-") and not it.startswith((*unproved.NOT_PASSED_ON, "-fPIE"))]
+
+
+def lines_below(top):
+    """Of each crate that the library stands on, and of the library, the kit's libraries and the repository's that its line of crates.txt names."""
+    rows = [line.partition(":") for line in (top / "crates.txt").read_text().splitlines() if line.strip() and not line.startswith("#")]
+    uses = {head.split()[0]: below.split() for head, _, below in rows}
+    found, left = {}, [CRATE]
+    while left:
+        name = left.pop()
+        if name in uses and name not in found:
+            found[name] = ([it for it in uses[name] if it not in uses], [it for it in uses[name] if it in uses])
+            left += found[name][1]
+    return found
+
+
+def libraries_below(top):
+    """What a gate leaves of each crate that the library stands on: its library, which is proved."""
+    return [top / "crates" / name / f"out/rlib/{name}.rlib" for name in lines_below(top) if name != CRATE]
+
+
+def prove_in(room, top, archive):
+    """Proves the library's crate over the libraries that a gate left, and makes its archive."""
+    own, (of_kit, ours) = unproved.kit(), lines_below(top)[CRATE]
+    words = [own / "bin/rattle", "build", "--crate-name", CRATE, "src/lib.rt", "--crate-type", "staticlib", "--links", f"{CRATE}="]
+    words += [it for name in ("std", *of_kit) for it in ("--extern", f"{name}={own / 'rlibs' / name}.rlib")]
+    words += ["-L", f"dependency={own / 'rlibs'}"]
+    for made in libraries_below(top):
+        words += ["--extern", f"{made.stem}={made}"] * (made.stem in ours) + ["-L", f"dependency={made.parent}"]
+    words += ["--antt-project", own / "rattle/logic/antt-project.json", "--logic-built", own / "logic_built"]
+    words += ["--toolchain", own / "toolchain", "--backend", "llvm", "-o", archive]
+    unproved.done("the library isn't proved", words, room, cwd=top / "crates" / CRATE)
 
 
 def link(own, room, of):

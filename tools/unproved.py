@@ -79,9 +79,9 @@ def called(words, room, **how):
     return said, tool.returncode
 
 
-def done(what, words, room):
+def done(what, words, room, **how):
     """Calls a tool, which has to end well."""
-    said, status = called(words, room)
+    said, status = called(words, room, **how)
     if status:
         raise CannotBuild(f"{what}: {said.strip()[-800:] or f'status {status}'}")
 
