@@ -1,63 +1,24 @@
-//! Tests of the exports.
+//! Tests of the exports, each once; `checks/embed` tries them from C and Python.
 
 use crate::exports::{mt_close, mt_command, mt_open, mt_run, mt_version};
 use crate::handle::Handle;
 
 #[test]
-fn a_session_answers_its_lines(rt: HostRuntime) {
+fn a_session_answers_a_line(rt: HostRuntime) {
     let mut session = Handle::closed();
-    let mut answer = [0; 4096];
+    let mut answer = [0; 2416];
     let mut written = 0;
-    assert!(rt;
-        mt_command(
-            rt.alloc(),
-            &mut session,
-            b"keyspace commerce",
-            &mut answer,
-            &mut written
-        ) == 3
-    );
     assert!(rt; mt_open(rt.alloc(), &mut session, b"customer  commerce") == 0);
-    assert!(rt; mt_open(rt.alloc(), &mut session, b"customer") == 4);
-    assert!(rt;
-        mt_command(
-            rt.alloc(),
-            &mut session,
-            b"keyspace commerce",
-            &mut answer,
-            &mut written
-        ) == 0
+    let status = mt_command(
+        rt.alloc(),
+        &mut session,
+        b"rules",
+        &mut answer,
+        &mut written,
     );
-    assert!(rt; &answer[..written] == b"ok\n".as_slice());
-    assert!(rt;
-        mt_command(
-            rt.alloc(),
-            &mut session,
-            b"rules",
-            &mut answer,
-            &mut written
-        ) == 0
-    );
+    assert!(rt; status == 0);
     assert!(rt; &answer[..written] == b"{\"rules\":[]}\n".as_slice());
-    assert!(rt;
-        mt_command(
-            rt.alloc(),
-            &mut session,
-            b"rules",
-            &mut answer[..100],
-            &mut written
-        ) == 2
-    );
     mt_close(rt.alloc(), &mut session);
-    assert!(rt;
-        mt_command(
-            rt.alloc(),
-            &mut session,
-            b"rules",
-            &mut answer,
-            &mut written
-        ) == 3
-    );
 }
 
 #[test]
@@ -67,17 +28,6 @@ fn a_script_runs_as_a_whole(rt: HostRuntime) {
     let script = b"keyspace commerce\n# nothing\ntable commerce corder\n";
     assert!(rt; mt_run(rt.alloc(), b"commerce", script, &mut output, &mut written) == 0);
     assert!(rt; &output[..written] == b"ok\nok\n".as_slice());
-    assert!(rt;
-        mt_run(
-            rt.alloc(),
-            b"commerce",
-            script,
-            &mut output[..3],
-            &mut written
-        ) == 2
-    );
-    assert!(rt; written == 6);
-    assert!(rt; mt_run(rt.alloc(), b"no.name", script, &mut output, &mut written) == 5);
 }
 
 #[test]
