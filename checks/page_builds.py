@@ -82,6 +82,8 @@ def made_up(folder: pathlib.Path) -> MadeUp:
 
 def killed(_page: pathlib.Path, folder: pathlib.Path) -> Cases:
     """Builds that are ended and killed; and the one behind them."""
+    # where this runs in the background the signal is ignored, and a program that it starts would ignore it too
+    signal.signal(signal.SIGINT, signal.default_int_handler)
     made = made_up(folder)
     for number in (signal.SIGTERM, signal.SIGKILL, signal.SIGINT):
         yield f"a build that gets {number.name}", made.ended(number)
