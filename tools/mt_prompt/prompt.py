@@ -5,7 +5,7 @@ import os
 import pathlib
 from collections.abc import Callable, Iterable, Iterator, Sequence
 
-from mt_prompt.typed import TypedScript, running_streams, without_comment
+from mt_prompt.typed import Script, running_streams, without_comment
 from mt_runs.program import ProgramFailed, is_silent
 from mt_runs.refusals import ScriptPage
 from mt_runs.shards import first_key
@@ -32,7 +32,7 @@ OWN_LINES = {
 class Prompt:
     """Answers lines: those of the language by the program, its own by questions to the program."""
 
-    def __init__(self, script: TypedScript, page: ScriptPage) -> None:
+    def __init__(self, script: Script, page: ScriptPage) -> None:
         self.script, self.page = script, page
         self.has_ended = False
         # by the first word and the number of words
@@ -53,7 +53,7 @@ class Prompt:
         own = self._own.get((words[0], len(words))) if words else None
         try:
             if is_silent(line):
-                self.script.lines += [line] if line else []
+                self.script.take_comment(line)
             elif own:
                 yield from own(words)
             elif words[0] == "help":
@@ -188,12 +188,11 @@ def _candidates(prompt: Prompt, placeholder: str) -> set[str]:
     keyspaces = topology.keyspaces.values()
     tables = {table for it in keyspaces for table in it.tables}
     places = {f"{it.name}.{table}" for it in keyspaces for table in it.tables}
-    workflows = {words[1] for words in map(str.split, prompt.script.lines) if words[:1] == ["create"]}
     streams = {stream_word(way, shard) for way in ("forward", "back") for it in keyspaces for shard in it.shards}
     found = {
         **dict.fromkeys(("K", "S", "G"), set(topology.keyspaces)),
         **dict.fromkeys(("T", "TABLES"), tables),
         **dict.fromkeys(("NAME", "KEY", "TARGET"), tables | places | set(topology.rules)),
-        **{"K.T": places, "W": workflows, "TYPES": {"all", *TYPES}, "STREAM": streams, "insert": set(ROW_LINES), "[WORD]": {*prompt.page.forms, *OWN_LINES}},
+        **{"K.T": places, "W": prompt.script.workflows(), "TYPES": {"all", *TYPES}, "STREAM": streams, "insert": set(ROW_LINES), "[WORD]": {*prompt.page.forms, *OWN_LINES}},
     }
     return found.get(placeholder, set())

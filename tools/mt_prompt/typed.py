@@ -1,6 +1,7 @@
 """The script that is typed line by line, and what the program answers to each line of it."""
 from __future__ import annotations
 
+import abc
 import itertools
 import os
 from collections.abc import Iterator, Sequence
@@ -13,43 +14,38 @@ UNREAD = ("refused X1 BadLine", "refused X2 LineTooLong")
 MOST_ROUNDS = 100  # of turns, to find how far a stream lags
 
 
-class TypedScript:
-    """The lines so far: those that weren't refused, and comments. Raises `ProgramFailed` where a run fails; nothing is kept of that line.
-
-    The keyspaces named have a watcher; where none is named each one that the script makes has.
-    """
-
-    def __init__(self, program: str | os.PathLike[str], keyspaces: Sequence[str]) -> None:
-        self.program = Program(program, keyspaces)
-        self.keyspaces = tuple(keyspaces)
-        self.lines: list[str] = []
-        self.program.answers([])  # it is there, and takes these words
+class Script(abc.ABC):
+    """Lines that are answered one by one, and what a prompt asks beside them. Each call raises `ProgramFailed` where there is no answer."""
 
     @property
+    @abc.abstractmethod
     def watchers(self) -> tuple[str, ...]:
         """The keyspaces that have a watcher."""
-        made = (line.split() for line in self.lines)
-        return self.keyspaces or tuple(words[1] for words in made if words[:1] == ["keyspace"])[:MOST_WATCHERS]
 
+    @property
+    @abc.abstractmethod
+    def lines(self) -> Sequence[str]:
+        """The lines so far."""
+
+    @abc.abstractmethod
     def ask(self, lines: Sequence[str]) -> list[str]:
         """The answers to lines behind those so far. Nothing stays."""
-        self.program.watchers = self.watchers
-        return self.program.ask(self.lines, lines)
 
+    @abc.abstractmethod
     def take(self, line: str) -> str:
-        """The answer to a line, which is kept unless it is refused. A comment behind it, which the language has none of, is left out."""
-        read = line
-        for read in _readings(line):
-            answer = self.ask([read])[0]
-            if answer not in UNREAD:
-                break
-        if not is_refused(answer):
-            self.lines.append(read)
-        return answer
+        """The answer to a line, which stays. A comment behind it, which the language has none of, is left out."""
 
+    @abc.abstractmethod
+    def take_comment(self, line: str) -> None:
+        """Takes a line that isn't answered."""
+
+    @abc.abstractmethod
     def take_back(self) -> str | None:
         """Takes the last line away; None if there is none."""
-        return self.lines.pop() if self.lines else None
+
+    @abc.abstractmethod
+    def workflows(self) -> set[str]:
+        """The names that workflows were given."""
 
     def topology(self) -> Topology:
         """The topology now."""
@@ -91,6 +87,57 @@ class TypedScript:
                 break
             entries, rows = entries + read, rows + copied
         return entries, rows
+
+    def reading(self, line: str) -> str:
+        """What of a line the language reads: all of it, unless it reads it only without a comment at its end."""
+        read = line
+        for read in _readings(line):
+            if "#" not in line or self.ask([read])[0] not in UNREAD:
+                break
+        return read
+
+
+class TypedScript(Script):
+    """The lines so far: those that weren't refused, and comments. Raises `ProgramFailed` where a run fails; nothing is kept of that line.
+
+    The keyspaces named have a watcher; where none is named each one that the script makes has.
+    """
+
+    def __init__(self, program: str | os.PathLike[str], keyspaces: Sequence[str]) -> None:
+        self.program = Program(program, keyspaces)
+        self.keyspaces = tuple(keyspaces)
+        self._lines: list[str] = []
+        self.program.answers([])  # it is there, and takes these words
+
+    @property
+    def lines(self) -> Sequence[str]:
+        return self._lines
+
+    @property
+    def watchers(self) -> tuple[str, ...]:
+        made = (line.split() for line in self.lines)
+        return self.keyspaces or tuple(words[1] for words in made if words[:1] == ["keyspace"])[:MOST_WATCHERS]
+
+    def ask(self, lines: Sequence[str]) -> list[str]:
+        self.program.watchers = self.watchers
+        return self.program.ask(self.lines, lines)
+
+    def take(self, line: str) -> str:
+        """The answer to a line, which is kept unless it is refused."""
+        read = self.reading(line)
+        answer = self.ask([read])[0]
+        if not is_refused(answer):
+            self._lines.append(read)
+        return answer
+
+    def take_comment(self, line: str) -> None:
+        self._lines += [line] if line else []
+
+    def take_back(self) -> str | None:
+        return self._lines.pop() if self._lines else None
+
+    def workflows(self) -> set[str]:
+        return {words[1] for words in map(str.split, self.lines) if words[:1] == ["create"]}
 
 
 def running_streams(move: Move) -> dict[str, int]:
