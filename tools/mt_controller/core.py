@@ -14,7 +14,9 @@ import threading
 from collections.abc import Sequence
 from multiprocessing.connection import Connection
 
-sys.path.insert(0, str(pathlib.Path(__file__).resolve().parents[2] / "embed"))
+TOP = pathlib.Path(__file__).resolve().parents[2]
+# the module stands beside the library where mt was unpacked or installed
+sys.path.insert(0, str(TOP / "lib" if (TOP / "lib/mt.py").exists() else TOP / "embed"))
 import mt
 
 Answered = list[str]
@@ -29,7 +31,10 @@ class Core:
 
     def __init__(self, watched: Sequence[str]) -> None:
         """Begins with nothing; the primaries of these keyspaces are watched. Raises `CoreFailed`. No thread may run yet."""
-        mt.library()
+        try:
+            mt.library()
+        except mt.NoLibrary as why:
+            raise CoreFailed(str(why)) from why
         context = multiprocessing.get_context("fork")
         self._connection, theirs = context.Pipe()
         self._process = context.Process(target=_serve, args=(theirs, self._connection, tuple(watched)), daemon=True)
@@ -61,7 +66,7 @@ class Core:
 
     def _told(self) -> Answered:
         try:
-            told = self._connection.recv()
+            told: Answered | str = self._connection.recv()
         except (EOFError, OSError) as why:
             raise CoreFailed("the core's process has ended") from why
         if isinstance(told, str):

@@ -92,7 +92,8 @@ class EtcdLog:
         if given.status != 200:
             told = f"{self._node()} answered {given.status}: {answer[:200].decode(errors='replace').strip()}"
             raise LogUnreachable(told) if given.status >= 500 or given.status in (408, 429) else LogFailed(told)
-        return json.loads(answer)
+        read: dict[str, Any] = json.loads(answer)
+        return read
 
     def _connected(self) -> http.client.HTTPConnection:
         if self._at.tls:

@@ -57,7 +57,7 @@ class SqliteLog:
                 raise WrongLog(f"the log has lost entries: its last one stood at place {place - 1} at least, and stands at {last}")
             if last == place - 1:
                 self._file.execute("INSERT INTO entries VALUES (?, ?)", (place, text))
-            return last == place - 1
+            return bool(last == place - 1)
 
     def close(self) -> None:
         self._file.close()
