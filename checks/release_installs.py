@@ -16,8 +16,9 @@ NOBODY = 65534
 LIST = "share/mt/installed"
 LINKS = {
     "bin/mt-prompt": "share/mt/tools/prompt", "bin/mt-rehearse": "share/mt/tools/rehearse", "bin/mt-picture": "share/mt/tools/picture",
+    "bin/mt-controller": "share/mt/tools/controller", "share/mt/lib/mt.py": "lib/mt/mt.py",
     "lib/mt/libmt.so": "lib/libmt.so", "share/mt/mt": "bin/mt",
-    **{f"share/bash-completion/completions/mt-{it}": "share/bash-completion/completions/mt" for it in ("prompt", "rehearse", "picture")},
+    **{f"share/bash-completion/completions/mt-{it}": "share/bash-completion/completions/mt" for it in ("prompt", "rehearse", "picture", "controller")},
 }
 MOVED = {"lib/mt.py": "lib/mt/mt.py", "man/mt.1": "share/man/man1/mt.1", "completions/mt.bash": "share/bash-completion/completions/mt"}
 # A command that kills the install of which it is a part, at one of its calls.
@@ -89,6 +90,8 @@ def there_and_back(room: pathlib.Path, installer: Installer) -> Iterator[Case]:
         yield f"installed, {name}", is_so
     done = ran([prefix / "bin/mt-picture", prefix / "share/mt/examples/whole_move.script"], cwd)
     yield "installed, the picture", done.returncode == 0 and (cwd / "whole_move.html").exists()
+    done = ran([prefix / "bin/mt-controller", "--log", f"sqlite:{cwd}/moves.db", "--batch", "commerce"], cwd, input="keyspace commerce\n", stdin=None)
+    yield "installed, the controller", (done.returncode, done.stdout) == (0, "ok\n")
     for name, is_so in callers(Places(prefix / "share/mt", prefix / "include", prefix / "lib", prefix / "lib/mt"), cwd):
         yield f"installed, {name}", is_so
     yield "installed, nothing is written", all_below(prefix) == before

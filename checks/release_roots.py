@@ -141,6 +141,7 @@ def with_python(root: Root) -> Iterator[Case]:
     script, output = example(DRAWN)
     yield "a caller in Python", root.prints(f"PYTHONPATH=/usr/local/lib/mt python3 -c '{PYTHON}' commerce customer", output, script)
     yield "the prompt", "F2 NoTable" in root.run("mt-prompt", TYPED).stdout
+    yield "the controller", root.prints("mt-controller --log sqlite:/tmp/moves.db --batch commerce customer", output, script)
     yield "the rehearsal", root.prints(f"mt-rehearse {REHEARSED}", (TOP / f"{REHEARSED}.output").read_text(), status=STATUS_OF_PLAN)
     yield "the picture", root.run(f"mt-picture {DRAWN} -o /tmp/page.html && cat /tmp/page.html").stdout.count("</script>") > 0
 

@@ -42,6 +42,8 @@ def tools_print(folder: pathlib.Path, cwd: pathlib.Path, program: pathlib.Path, 
     own = ran([TOP / "tools/prompt", "--mt", program], TOP, **asked)
     done = ran([prompt], cwd, **asked)
     yield "the prompt", (done.returncode, done.stdout) == (own.returncode, own.stdout) and "F2 NoTable" in own.stdout
+    done = ran([folder / "tools/controller", "--log", f"sqlite:{cwd}/unpacked.db", "--batch", "commerce"], cwd, input="keyspace commerce\n", stdin=None)
+    yield "the controller", (done.returncode, done.stdout) == (0, "ok\n")
     done = ran([rehearse, folder / REHEARSED], cwd)
     yield "the rehearsal", (done.returncode, done.stdout) == (STATUS_OF_PLAN, (TOP / f"{REHEARSED}.output").read_text())
 

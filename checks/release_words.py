@@ -51,6 +51,10 @@ COMPLETED = {
     ("mt-rehearse", "--script", "=", "a"): "(default)",
     ("mt-rehearse", "do"): "(filenames) docs",
     ("/usr/local/bin/mt-rehearse", "--ru"): "--rules",
+    ("mt-controller", "--log", ""): "",
+    ("mt-controller", "--log", "sqlite:moves.db", "--ba"): "--batch",
+    ("mt-controller", "--cacert", ""): "(default)",
+    ("mt-controller", "--script", ""): "",
 }
 # Sources the completions, and completes the words that follow; `compopt` tells what it is called for.
 ASK = """
@@ -122,7 +126,7 @@ def completions(folder: pathlib.Path, program: pathlib.Path) -> Iterator[Case]:
     for command in commands[:-1]:
         told = ran([program, "help", command], folder).stdout
         yield f"the options of {command} are those of its help", set(offered(folder, ("mt", command, "-")).split()) == set(OPTION.findall(told))
-    for tool in ("prompt", "rehearse", "picture"):
+    for tool in ("prompt", "rehearse", "picture", "controller"):
         told = ran([folder / "tools" / tool, "--help"], folder).stdout.partition("options:")[2]
         yield f"the options of {tool} are those of its help", set(offered(folder, (f"mt-{tool}", "-")).split()) == set(OPTION.findall(told))
 

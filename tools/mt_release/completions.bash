@@ -72,12 +72,20 @@ _mt_tool() {
     _mt_words
     _mt_is_redirected && return
     case $prev in
-    --mt | --script | --picture | --svg | --facts | --answers | --output | -o)
+    --mt | --picture | --svg | --facts | --answers | --output | -o | --cacert | --cert | --key | --token)
         compopt -o default
         return
         ;;
     esac
+    case ${COMP_WORDS[0]##*/}:$prev in
+    mt-rehearse:--script)
+        compopt -o default
+        return
+        ;;
+    mt-controller:--log | mt-controller:--prefix | mt-controller:--serve) return ;;
+    esac
     case ${COMP_WORDS[0]##*/}:$cur in
+    mt-controller:-*) _mt_options --log --prefix --cacert --cert --key --batch --serve --token --script --help -h ;;
     mt-prompt:-*) _mt_options --mt --help -h ;;
     mt-rehearse:-*) _mt_options --rules --script --json --picture --mt --help -h ;;
     mt-picture:-*) _mt_options --output -o --svg --facts --answers --mt --help -h ;;
@@ -90,4 +98,4 @@ _mt_tool() {
 }
 
 complete -F _mt mt
-complete -F _mt_tool mt-prompt mt-rehearse mt-picture
+complete -F _mt_tool mt-prompt mt-rehearse mt-picture mt-controller

@@ -12,14 +12,14 @@ usage: ./install.sh PREFIX              installs mt below the folder PREFIX, as 
        ./install.sh --uninstall PREFIX  takes away what was installed there
        ./install.sh --help
 
-PREFIX is an absolute path, and the folder above it is there. Below it come bin/mt, bin/mt-prompt, bin/mt-rehearse, bin/mt-picture, lib/libmt.a,
-lib/libmt.so, include/mt.h, lib/mt/mt.py, the man page, completions for bash, and share/mt with the rest: the documents, the examples, the page in
-which mt runs. What was installed there before is replaced. Any other file is not: then nothing is installed.
+PREFIX is an absolute path, and the folder above it is there. Below it come bin/mt, bin/mt-prompt, bin/mt-rehearse, bin/mt-picture, bin/mt-controller,
+lib/libmt.a, lib/libmt.so, include/mt.h, lib/mt/mt.py, the man page, completions for bash, and share/mt with the rest: the documents, the examples, the
+page in which mt runs. What was installed there before is replaced. Any other file is not: then nothing is installed.
 
 With DESTDIR in the environment, an absolute path, all goes below DESTDIR/PREFIX, which is made, for who makes a package of it.
 PREFIX/share/mt/installed lists each file, and each folder that had to be made; --uninstall takes away these. PREFIX/share/mt/install.sh can do
-that too. A program that is linked with libmt.so finds it in /usr/local/lib once ldconfig was run. mt-prompt, mt-rehearse and mt-picture need
-Python 3.9 or newer.
+that too. A program that is linked with libmt.so finds it in /usr/local/lib once ldconfig was run. mt-prompt, mt-rehearse, mt-picture and
+mt-controller need Python 3.9 or newer.
 END
 }
 
@@ -51,11 +51,14 @@ links() {
 bin/mt-prompt ../share/mt/tools/prompt
 bin/mt-rehearse ../share/mt/tools/rehearse
 bin/mt-picture ../share/mt/tools/picture
+bin/mt-controller ../share/mt/tools/controller
 lib/mt/libmt.so ../libmt.so
 share/mt/mt ../../bin/mt
+share/mt/lib/mt.py ../../../lib/mt/mt.py
 share/bash-completion/completions/mt-prompt mt
 share/bash-completion/completions/mt-rehearse mt
 share/bash-completion/completions/mt-picture mt
+share/bash-completion/completions/mt-controller mt
 END
 }
 

@@ -15,7 +15,7 @@ from mt_release.origin import NOT_KNOWN, Commit, checksum, files_of, gate_of, ki
 # What is packed as it stands in the repository; of it the folders with all that git knows there.
 COPIED = (
     "README.md", "CHANGELOG.md", "LICENSE", "docs", "examples", "page", "checks/rehearsals/one_table", "embed/run.c",
-    "tools/picture", "tools/prompt", "tools/rehearse", "tools/mt_picture", "tools/mt_prompt", "tools/mt_rehearsal", "tools/mt_runs",
+    "tools/controller", "tools/picture", "tools/prompt", "tools/rehearse", "tools/mt_controller", "tools/mt_picture", "tools/mt_prompt", "tools/mt_rehearsal", "tools/mt_runs",
 )
 RENAMED = {
     "embed/mt.h": "include/mt.h",

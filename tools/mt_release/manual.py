@@ -21,8 +21,8 @@ TAGS = {("status", "standard error", "when", "what was written"): 2}
 # Where `install.sh` puts what the sections before name.
 FILES = """\
 The folders `docs`, `examples` and `tools` that are named here stand in the folder `share/mt` below that of the installation, and so does `mt.html`, a
-page in which the controller runs. `tools/prompt`, `tools/rehearse` and `tools/picture` can be called as `mt-prompt`, `mt-rehearse` and `mt-picture` too. The
-C library is `lib/libmt.a` and `lib/libmt.so`, with `include/mt.h`; that of Python is `lib/mt/mt.py`. `share/mt/RELEASE` says of which commit all this is, and what is
+page in which the controller runs. `tools/prompt`, `tools/rehearse`, `tools/picture` and `tools/controller` can be called as `mt-prompt`, `mt-rehearse`, `mt-picture` and
+`mt-controller` too. The C library is `lib/libmt.a` and `lib/libmt.so`, with `include/mt.h`; that of Python is `lib/mt/mt.py`. `share/mt/RELEASE` says of which commit all this is, and what is
 known of it."""
 
 
