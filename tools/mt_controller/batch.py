@@ -11,6 +11,7 @@ from mt_controller.controller import Controller, Ended, NotTaken
 from mt_runs.program import is_silent
 
 MOST_THAT_WAIT = 4000  # lines that are read before the first of them is answered
+LOOKS_EVERY = 0.2  # seconds, whether the controller goes on, while no line comes
 
 Waiting = queue.Queue["Future[list[str]] | NotTaken | None"]
 
@@ -23,7 +24,15 @@ def answer_input(controller: Controller, tell: Callable[[str], None]) -> bool:
     waiting: Waiting = queue.Queue(MOST_THAT_WAIT)
     threading.Thread(target=_hand_in, args=(controller, waiting), daemon=True).start()
     were_taken = True
-    while (it := waiting.get()) is not None:
+    while True:
+        try:
+            it = waiting.get(timeout=LOOKS_EVERY)
+        except queue.Empty:
+            if controller.ended.done():
+                return False
+            continue
+        if it is None:
+            return were_taken
         if isinstance(it, NotTaken):
             tell(str(it))
             were_taken = False
@@ -33,7 +42,6 @@ def answer_input(controller: Controller, tell: Callable[[str], None]) -> bool:
         except Ended:
             return False
         sys.stdout.flush()
-    return were_taken
 
 
 def _hand_in(controller: Controller, waiting: Waiting) -> None:
