@@ -39,10 +39,14 @@ class Present:
 
 @dataclass(frozen=True)
 class Mark:
-    """Where what a way back takes back began: the number of its line, and what the move had of the topology before; None if that wasn't seen."""
+    """Where what a way back takes back began: the number of the first line of that column, and what the move had of the topology before, None if that wasn't seen.
+
+    Only if the column has one line it is known that it was so right before.
+    """
 
     number: int
     before: Part | None
+    is_right_before: bool
 
 
 @dataclass(frozen=True)
@@ -66,19 +70,20 @@ class Followed:
         ends = [it.number for it in lines if it.answer == "ok" and words_of(it.line) in [[verb, self.begun.workflow] for verb in ENDS]]
         return replace(self, begun=replace(self.begun, ended=NOW), ended=next(iter(ends), None))
 
-    def behind(self, shown: Move | None, first: int, before: Topology | None, ways: set[str]) -> Followed:
-        """The same behind a column that begins with a line, before which the topology was this; with the directions of the ways that the column has."""
+    def behind(self, shown: Move | None, column: range, before: Topology | None, ways: set[str]) -> Followed:
+        """The same behind the lines of a column, before which the topology was this; with the directions of the ways that the column has."""
         stands = {"move": shown is not None, "switched": bool(shown and (shown.way or shown.switched)), "way": bool(shown and shown.way)}
-        new = Mark(first, before.part_of(self.begun.source, self.begun.target, self.begun.tables) if before else None)
+        part = before.part_of(self.begun.source, self.begun.target, self.begun.tables) if before else None
+        new = Mark(column.start, part, part is not None and len(column) == 1)
         marks = {name: self.marks.get(name, new) for name, does in stands.items() if does}
         return replace(self, directions=self.directions | ways, marks=marks)
 
     def way_back(self, shown: Move, trial: Trial) -> WayBack:
         """The way back that was tried, beside the topology from before that to which it leads."""
         mark = self.marks["way" if shown.way else "switched" if shown.switched else "move"]
-        if not trial.was_done or (mark.before and trial.part != mark.before):
-            return WayBack(trial.lines, trial.answers, None)
-        return WayBack(trial.lines, trial.answers, mark.number if mark.before else UNSEEN)
+        if trial.was_done and trial.part == mark.before:
+            return WayBack(trial.lines, trial.answers, mark.number)
+        return WayBack(trial.lines, trial.answers, UNSEEN if trial.was_done and not mark.is_right_before else None)
 
     def facts(self) -> MoveFacts:
         """The move itself."""

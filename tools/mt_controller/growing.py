@@ -88,12 +88,12 @@ class Growing:
         moves = followed_now(present, self.moves, known, lines)
         looked = look(present, [], [it.begun for it in moves.values()])
         asked = [self._asked(present, lines, move, place, looked) for place, move in enumerate(moves.values())]
-        first = self.applied + 1
-        behind = {number: move.behind(it.shown, first, self._topology, it.directions()) for (number, move), it in zip(moves.items(), asked)}
+        column = range(self.applied + 1, present.applied + 1)
+        behind = {number: move.behind(it.shown, column, self._topology, it.directions()) for (number, move), it in zip(moves.items(), asked)}
         states = {number: it.state(behind[number], lines) for number, it in zip(moves, asked)}
         self._gone |= {it.number for it in known.values()} - set(moves)
         self.moves = behind
-        self._add(Drawn(first, present.applied, lines[-MOST_LINES:], states))
+        self._add(Drawn(column.start, present.applied, lines[-MOST_LINES:], states))
         self.forget()
         self._before, self._topology, self.applied = present, looked.topology, present.applied
 

@@ -33,7 +33,7 @@ class Picture:
         self._controller = controller
         self._growing = Growing(f"The moves of {name}", controller.watched, page)
         self._looked_at = 0.0
-        self.shown = Shown(0, _text(None, "The picture is being asked for."))
+        self.shown = Shown(0, _text(0, None, "The picture is being asked for."))
 
     def start(self) -> None:
         """Begins to gather."""
@@ -84,8 +84,8 @@ class Picture:
 
     def _show(self, problem: str) -> None:
         facts = self._growing.document()
-        self.shown = Shown(self.shown.number + 1, _text(facts, problem or ("" if facts else NO_MOVE)))
+        self.shown = Shown(self.shown.number + 1, _text(self._growing.applied, facts, problem or ("" if facts else NO_MOVE)))
 
 
-def _text(facts: object, words: str) -> str:
-    return json.dumps({"facts": facts, "words": words}, separators=(",", ":"))
+def _text(applied: int, facts: object, words: str) -> str:
+    return json.dumps({"applied": applied, "facts": facts, "words": words}, separators=(",", ":"))

@@ -20,7 +20,7 @@ MOST_HEAD = 16_384  # bytes
 IDLE = 5.0  # seconds without a byte
 WHOLE = 10.0  # seconds for all of a request, and for all of its answer
 DRAINED = 0.5  # seconds for what is still sent when it is refused
-JSON = "application/json"
+JSON, TEXT = "application/json", "text/plain; charset=utf-8"
 ON_EACH = {
     "X-Content-Type-Options": "nosniff",
     "Cache-Control": "no-store",
@@ -35,6 +35,13 @@ class Refused(Exception):
     def __init__(self, status: HTTPStatus, why: str, headers: Mapping[str, str] | None = None) -> None:
         super().__init__(why)
         self.status, self.headers = status, headers or {}
+
+
+def written(status: HTTPStatus, kind: str, body: bytes, headers: Mapping[str, str]) -> bytes:
+    """An answer with the headers that each has, and these."""
+    told = {"Content-Type": kind, "Content-Length": str(len(body)), **ON_EACH, **headers}
+    head = [f"HTTP/1.0 {status.value} {status.phrase}", *(f"{name}: {value}" for name, value in told.items()), "", ""]
+    return "\r\n".join(head).encode("latin-1") + body
 
 
 class Limited(io.RawIOBase):
@@ -78,7 +85,7 @@ class PageHandler(BaseHTTPRequestHandler):
                 kind, body = self._answered()
                 self._send(HTTPStatus.OK, kind, body, {})
             except Refused as why:
-                self._send(why.status, "text/plain; charset=utf-8", f"{why}\n".encode(), why.headers)
+                self._send(why.status, TEXT, f"{why}\n".encode(), why.headers)
                 self._drain()
         except OSError:
             pass
@@ -100,6 +107,8 @@ class PageHandler(BaseHTTPRequestHandler):
         self.raw_requestline = self.rfile.readline(MOST_HEAD + 1)
         if not self.raw_requestline:
             raise ConnectionError("nothing was asked")
+        if len(self.raw_requestline) > MOST_HEAD:
+            raise Refused(HTTPStatus.REQUEST_URI_TOO_LONG, "the path is too long")
         self.command, self.request_version = "", "HTTP/1.0"
         if not self.parse_request():
             self.send_error(HTTPStatus.BAD_REQUEST)
@@ -160,10 +169,8 @@ class PageHandler(BaseHTTPRequestHandler):
     # ---- what is answered
 
     def _send(self, status: HTTPStatus, kind: str, body: bytes, headers: Mapping[str, str]) -> None:
-        told = {"Content-Type": kind, "Content-Length": str(len(body)), "Content-Security-Policy": self.server.policy, **ON_EACH, **headers}
-        head = [f"HTTP/1.0 {status.value} {status.phrase}", *(f"{name}: {value}" for name, value in told.items())]
         self.connection.settimeout(WHOLE)
-        self.wfile.write("\r\n".join([*head, "", ""]).encode("latin-1") + body)
+        self.wfile.write(written(status, kind, body, {"Content-Security-Policy": self.server.policy, **headers}))
         self.wfile.flush()
 
     def _drain(self) -> None:

@@ -23,6 +23,7 @@ from mt_picture.gathering import plain_refusals
 from mt_picture.script import shown_text
 from mt_runs.command_line import FAILED
 from mt_runs.refusals import ScriptPage
+from mt_runs.words import counted
 
 ANSWERED_WITHIN = 1.0  # seconds, or a page asks again
 ENDS_WITHIN = 5.0  # seconds for the lines that wait when it is told to end
@@ -123,6 +124,6 @@ def _end(controller: Controller, service: Service, tell: Callable[[str], None]) 
     closing.start()
     closing.join(ENDS_WITHIN)
     if left := service.lines.waiting():
-        tell(f"{left} {'line was' if left == 1 else 'lines were'} asked for and not answered; the log may have them")
+        tell(f"{counted(left, 'line was', 'lines were')} asked for and not answered; what came of that the log says")
     if service.picture.is_looked_at():
         time.sleep(TELLS_END)

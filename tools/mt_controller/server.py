@@ -14,11 +14,12 @@ import sys
 import threading
 from collections.abc import Callable, Mapping
 from dataclasses import dataclass
+from http import HTTPStatus
 from http.server import ThreadingHTTPServer
 from typing import Any
 
 from mt_controller.opened import WrongWords
-from mt_controller.requests import PageHandler
+from mt_controller.requests import TEXT, PageHandler, written
 from mt_picture.drawing import FOLDER, IMPORT
 
 MOST_CONNECTIONS = 64  # at once
@@ -26,7 +27,7 @@ LEAST_TOKEN = 16  # bytes
 ADDRESS = re.compile(r"([^\s/:\[\]]+|\[[0-9a-fA-F:.]+\]):(\d{1,5})")
 ENTRY, PAGE, LOOKS = "controller.mjs", "controller.html", ("look.css", "controller.css")
 STYLE = re.compile(r"^const STYLE = '([^'\\]*)';$", re.M)  # of a drawing, which is inside it
-FULL = b"HTTP/1.0 503 Service Unavailable\r\nContent-Type: text/plain; charset=utf-8\r\nConnection: close\r\n\r\ntoo many connections are open\n"
+FULL = b"too many connections are open\n"
 
 Given = tuple[str, bytes]  # a type, and bytes
 Call = Callable[[Any], bytes]  # from the JSON of a body to that of an answer
@@ -105,7 +106,7 @@ class PageServer(ThreadingHTTPServer):
             return
         with contextlib.suppress(OSError):
             request.settimeout(0)
-            request.send(FULL)
+            request.send(written(HTTPStatus.SERVICE_UNAVAILABLE, TEXT, FULL, {"Content-Security-Policy": self.policy}))
         self.shutdown_request(request)
 
     def process_request_thread(self, request: Any, client_address: Any) -> None:
