@@ -133,10 +133,12 @@ class Serving:
         return dict(told)["outcome"]
 
     def pictured(self, last: int) -> Any:
-        """The facts of the picture once it stands behind so many lines; None if there are none."""
+        """The facts of the picture once it stands behind so many lines; None if there are none. Raises `NotServed` if the picture failed."""
         while self.process.poll() is None:
             shown = self.state()["picture"]["shown"]
             if shown["applied"] == last:
                 return shown["facts"]
+            if shown["words"].startswith("There is no new picture"):
+                raise NotServed(shown["words"])
             time.sleep(0.05)
         raise NotServed("the controller ended")

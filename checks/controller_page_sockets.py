@@ -22,7 +22,9 @@ ON_EACH = {
     "connection": "close",
 }
 STATE = json.dumps({"run": "", "applied": 0, "picture": 0, "waits": []})
-FROM_FORM = "application/x-www-form-urlencoded"
+TYPES = ["application/x-www-form-urlencoded", "text/plain", "multipart/form-data; boundary=a", "application/json; a=b"]  # of plain forms, and others
+PATHS = ["/no", "/../README.md", "/%2e%2e/README.md", "/?a", "/controller.mjs/", "/tools/controller", "/served", "*", "http://example.com/"]
+BODIES = ["{", "[]", "", '{"run":""}', STATE.replace("0", '"0"'), STATE[:-1] + ',"more":1}', "[" * 20_000]
 SLOW = {"a slow head": b"POST /line HT", "a slow body": b"\r\n{", "nothing but a connection": b""}
 
 
@@ -67,54 +69,59 @@ def without_headers(headers: Mapping[str, str]) -> list[str]:
     return found + ["the policy lets more in"] * (not headers.get("content-security-policy", "").startswith("default-src 'none'; script-src 'self';"))
 
 
-def refused(port: int) -> dict[str, tuple[int, bytes]]:
-    """Requests that are refused, by what is wrong with them, each with its status."""
-    def changed(start: str = "POST /state HTTP/1.1", body: str = STATE, drop: str = "", **headers: str) -> bytes:
-        return request(port, start, body, drop, **headers)
-
-    hosts = {"another name": "example.com", "a name with the port": f"example.com:{port}", "no port": "127.0.0.1", "another port": "127.0.0.1:1", "a name that begins so": f"127.0.0.1:{port}.example.com"}
-    origins = {"another site": "http://example.com", "none that can be told": "null", "another scheme": f"https://127.0.0.1:{port}", "another port": "http://127.0.0.1:1"}
-    kinds = {"a form": FROM_FORM, "text": "text/plain", "several parts": "multipart/form-data; boundary=a", "JSON and more": "application/json; a=b"}
-    lengths = {"no number": (400, "1x"), "a sign": (400, "-1"), "letters for digits": (400, "²"), "too much": (413, "25700"), "far too much": (413, "9" * 400)}
-    bodies = {"no JSON": "{", "a list": "[]", "nothing": "", "other members": '{"run":""}', "other types": STATE.replace("0", '"0"'), "more members": STATE[:-1] + ',"more":1}', "depth": "[" * 20_000}
-    paths = ["/no", "/../README.md", "/%2e%2e/README.md", "/?a", "/controller.mjs/", "/tools/controller", "/served", "*", "http://example.com/"]
+def refused_heads(port: int) -> dict[str, tuple[int, bytes]]:
+    """Requests with heads that are refused, by what is wrong with them, each with its status."""
+    own = f"127.0.0.1:{port}"
+    usual = request(port)
     return {
-        **{f"a host that is {name}": (421, changed(Host=it)) for name, it in hosts.items()},
-        "no host": (421, changed(drop="Host")),
-        "two hosts": (421, changed().replace(b"\r\nContent-Type", f"\r\nHost: 127.0.0.1:{port}\r\nContent-Type".encode())),
-        **{f"an origin that is {name}": (403, changed(Origin=it)) for name, it in origins.items()},
-        **{f"a page of {name} from another site": (403, changed("GET / HTTP/1.1", "", Origin=it)) for name, it in origins.items()},
-        **{f"a body that is {name}": (415, changed(Content_Type=it)) for name, it in kinds.items()},
-        "a body of no type": (415, changed(drop="Content-Type")),
-        "a body without length": (411, changed(drop="Content-Length")),
-        "a body in chunks": (411, changed(drop="Content-Length", Transfer_Encoding="chunked")),
-        "a body in chunks with a length": (411, changed(Transfer_Encoding="chunked")),
-        "two lengths": (411, changed().replace(b"\r\nContent-Type", b"\r\nContent-Length: 1\r\nContent-Type")),
-        **{f"a length of {name}": (status, changed(Content_Length=it)) for name, (status, it) in lengths.items()},
-        **{f"a body of {name}": (400, changed(body=it)) for name, it in bodies.items()},
-        "a line without a key": (400, changed("POST /line HTTP/1.1", '{"key":"","line":"keyspace a"}')),
-        "no token": (401, changed(drop="Authorization")),
-        "another token": (401, changed(Authorization="Bearer a-token-of-letterz")),
-        "a token of another scheme": (401, changed(Authorization=f"Basic {TOKEN}")),
-        "a token that begins so": (401, changed(Authorization=f"Bearer {TOKEN[:-1]}")),
-        "a token of odd letters": (401, changed(Authorization="Bearer \u00fc")),
-        **{f"the path {it}": (404, changed(f"GET {it} HTTP/1.1", "")) for it in paths},
-        **{f"the method {it}": (405, changed(f"{it} /state HTTP/1.1")) for it in ("GET", "PUT", "DELETE", "OPTIONS", "HEAD", "get", "\u00fc")},
-        "a page that is posted to": (405, changed("POST / HTTP/1.1")),
-        "another protocol": (505, changed("POST /state HTTP/2.0")),
+        **{f"the host {it}": (421, request(port, Host=it)) for it in ("example.com", f"example.com:{port}", "127.0.0.1", "127.0.0.1:1", f"{own}.example.com", "")},
+        "no host": (421, request(port, drop="Host")),
+        "two hosts": (421, with_line(usual, f"Host: {own}")),
+        **{f"the origin {it}": (403, request(port, Origin=it)) for it in ("http://example.com", "null", f"https://{own}", "http://127.0.0.1:1")},
+        "a page that another site asks for": (403, request(port, "GET / HTTP/1.1", "", Origin="http://example.com")),
+        "no token": (401, request(port, drop="Authorization")),
+        "another token": (401, request(port, Authorization="Bearer a-token-of-letterz")),
+        "a token of another scheme": (401, request(port, Authorization=f"Basic {TOKEN}")),
+        "a token that begins so": (401, request(port, Authorization=f"Bearer {TOKEN[:-1]}")),
+        "a token of odd letters": (401, request(port, Authorization="Bearer \u00fc")),
+        **{f"the path {it}": (404, request(port, f"GET {it} HTTP/1.1", "")) for it in PATHS},
+        **{f"the method {it}": (405, request(port, f"{it} /state HTTP/1.1")) for it in ("GET", "PUT", "DELETE", "OPTIONS", "HEAD", "get", "\u00fc")},
+        "a page that is posted to": (405, request(port, "POST / HTTP/1.1")),
+        "another protocol": (505, request(port, "POST /state HTTP/2.0")),
         "no request": (400, b"\r\n\r\n"),
         "words that are no request": (400, b"one two three four\r\n\r\n"),
         "a request of the first kind": (421, b"GET /\r\n\r\n"),
         "a path that is too long": (414, b"GET /" + b"a" * 20_000 + b" HTTP/1.1\r\n\r\n"),
-        "a head that is too long": (431, changed(More="a" * 70_000)),
-        "a head of too many lines": (431, changed().replace(b"\r\nContent-Type", b"\r\nA: b" * 200 + b"\r\nContent-Type")),
+        "a head that is too long": (431, request(port, More="a" * 70_000)),
+        "a head of too many lines": (431, with_line(usual, "\r\n".join(["A: b"] * 200))),
     }
+
+
+def refused_bodies(port: int) -> dict[str, tuple[int, bytes]]:
+    """Requests with bodies that are refused, by what is wrong with them, each with its status."""
+    lengths = {"1x": 400, "-1": 400, "\u00b2": 400, "25700": 413, "9" * 400: 413}
+    return {
+        **{f"a body of {it}": (415, request(port, Content_Type=it)) for it in TYPES},
+        "a body of no type": (415, request(port, drop="Content-Type")),
+        "a body without length": (411, request(port, drop="Content-Length")),
+        "a body in chunks": (411, request(port, drop="Content-Length", Transfer_Encoding="chunked")),
+        "a body in chunks with a length": (411, request(port, Transfer_Encoding="chunked")),
+        "two lengths": (411, with_line(request(port), "Content-Length: 1")),
+        **{f"a length of {it[:9]}": (status, request(port, Content_Length=it)) for it, status in lengths.items()},
+        **{f"the body {it[:40]}": (400, request(port, body=it)) for it in BODIES},
+        "a line without a key": (400, request(port, "POST /line HTTP/1.1", '{"key":"","line":"keyspace a"}')),
+    }
+
+
+def with_line(sent: bytes, line: str) -> bytes:
+    """A request with one more line in its head."""
+    return sent.replace(b"\r\nContent-Type", f"\r\n{line}\r\nContent-Type".encode(), 1)
 
 
 def refusals(place: Place) -> Cases:
     """Each of these, and the server answers behind it."""
     with serving(place) as served:
-        for name, (status, sent) in refused(served.port).items():
+        for name, (status, sent) in {**refused_heads(served.port), **refused_bodies(served.port)}.items():
             yield name, wrong(answer_to(served.port, sent), status)
         got, headers, body = parted(answer_to(served.port, request(served.port)))
         yield "the page's own request", [f"{got} {body[:100]}"] * (got != 200) + without_headers(headers)
@@ -271,9 +278,9 @@ def everywhere(place: Place) -> Cases:
     """A server for all addresses: it answers to the one that a request came to, and to no other name."""
     (place.folder / "token").write_text(TOKEN)
     with place.serving("--token", str(place.folder / "token"), at="0.0.0.0:0") as served:
-        for host, status in {f"127.0.0.2:{served.port}": 200, f"localhost:{served.port}": 200, f"127.0.0.1:{served.port}": 421, f"example.com:{served.port}": 421}.items():
-            got, *_ = parted(answer_to(served.port, request(served.port, Host=host), "127.0.0.2"))
-            yield f"all addresses, asked as {host.partition(':')[0]}", [f"status {got}"] * (got != status)
+        for host, status in {"127.0.0.2": 200, "localhost": 200, "127.0.0.1": 421, "example.com": 421}.items():
+            got, *_ = parted(answer_to(served.port, request(served.port, Host=f"{host}:{served.port}"), "127.0.0.2"))
+            yield f"all addresses, asked as {host}", [f"status {got}"] * (got != status)
     with place.serving() as served:
         with contextlib.suppress(ConnectionRefusedError):
             socket.create_connection(("127.0.0.2", served.port)).close()

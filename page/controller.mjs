@@ -144,8 +144,8 @@ function showLine() {
   const waiting = sent.filter((it) => !it.outcome);
   const last = sent.filter((it) => it.outcome).slice(-1);
   const why = told.away !== null ? ", as the log doesn't answer at the moment" : "";
-  const text = notice ? element("p", { class: "problem" }, escaped(notice)) : line ? loggedTold(line, refusals) : [...last, ...waiting].map((it) => sentTold(it, why)).join("");
-  const shown = text || "<p>No line was sent from this page yet.</p>";
+  const asked = line ? loggedTold(line, refusals) : [...last, ...waiting].map((it) => sentTold(it, why)).join("");
+  const shown = (notice ? element("p", { class: "problem" }, escaped(notice)) : asked) || "<p>No line was sent from this page yet.</p>";
   if (byId("line").dataset.text === shown) return;
   byId("line").dataset.text = shown;
   byId("line").innerHTML = shown;

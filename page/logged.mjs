@@ -56,8 +56,8 @@ export function sentTold({ line, outcome }, waitsFor) {
     const means = it.means.map(([name, text]) => [NAMES[name] ?? "", text]);
     return element("p", {}, pair(it.line, it.answer)) + (means.length ? partsTold(means) : "");
   });
-  const problem = outcome.problem ? element("p", { class: "problem" }, `${element("code", {}, escaped(line))} wasn't answered: ${escaped(outcome.problem)}.`) : "";
-  return taken.join("") + problem;
+  const problem = `${element("code", {}, escaped(line))} wasn't answered: ${escaped(outcome.problem ?? "")}.`;
+  return taken.join("") + (outcome.problem === null ? "" : element("p", { class: "problem" }, problem));
 }
 
 /** @param {string} line @param {string} answer */

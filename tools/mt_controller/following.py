@@ -20,7 +20,7 @@ ENDS = ("cancel", "complete")
 
 
 class Present:
-    """A copy of the core, asked as runs of the program are. The lines that it stands behind aren't named again, so `before` is empty where it is asked as it is."""
+    """A copy of the core, asked as runs of the program are. The lines that it stands behind aren't named again: without others `before` is empty."""
 
     def __init__(self, copy: Copy) -> None:
         self.applied = copy.applied
@@ -39,9 +39,9 @@ class Present:
 
 @dataclass(frozen=True)
 class Mark:
-    """Where what a way back takes back began: the number of the first line of that column, and what the move had of the topology before, None if that wasn't seen.
+    """Where what a way back takes back began: the number of that column's first line, and what the move had of the topology before; None if that wasn't seen.
 
-    Only if the column has one line it is known that it was so right before.
+    It is known that it was so right before only if the column has one line.
     """
 
     number: int
