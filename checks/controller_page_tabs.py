@@ -91,6 +91,10 @@ class Looked:
         found: dict[str, Any] = self.tab.value(SEEN)
         return found
 
+    def unreadable(self) -> list[str]:
+        """What is cut off, and what doesn't stand out."""
+        return list(self.tab.value(CUT_OFF) + self.tab.value(f"{UNREADABLE}({LEAST_CONTRAST}, {LEAST_TYPE})"))
+
     def asked(self) -> list[str]:
         """What was asked of others than the page's own server."""
         self.told += self.tab.browser.told
@@ -248,7 +252,9 @@ def readable(place: Place, browser: Browser) -> Cases:
         for width, scheme in ((width, scheme) for width in WIDTHS for scheme in SCHEMES):
             page.tab.screen(width, 800, scheme)
             page.sees("false", 2)
-            yield f"{width} pixels wide, {scheme}", page.tab.value(CUT_OFF) + page.tab.value(f"{UNREADABLE}({LEAST_CONTRAST}, {LEAST_TYPE})")
+            yield f"{width} pixels wide, {scheme}", page.unreadable()
+        served.kill()
+        yield "a controller that is lost, by its look", page.tells("status", "can't be reached since") + page.unreadable()
 
 
 def take_shots(place: Place, browser: Browser, folder: pathlib.Path) -> None:
@@ -258,9 +264,9 @@ def take_shots(place: Place, browser: Browser, folder: pathlib.Path) -> None:
         page = Looked(browser, served)
         page.tells("words", "No move")
         page.tab.shot(folder / "begins.png")
-        for line in [*TYPED, "switch mv all"]:
+        for number, line in enumerate([*TYPED, "switch mv all"], 1):
             page.sent(line)
-        page.sees(f"{PICTURED} === {len(TYPED) + 1}")
+            page.sees(f"{ROWS} === {number} && {PICTURED} === {number}", 3)
         for width, scheme in ((width, scheme) for width in WIDTHS for scheme in SCHEMES):
             page.tab.screen(width, 800, scheme)
             page.sees("false", 2)

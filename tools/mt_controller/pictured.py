@@ -15,7 +15,7 @@ from mt_runs.refusals import ScriptPage
 
 EVERY = 0.25  # seconds from one column to the next at least: lines in between share one
 LOOKED_AT = 3.0  # seconds for which who asked for the picture counts as one who looks at it
-NO_MOVE = "No move stands. The picture begins with the first create that is answered ok."
+NO_MOVE = "No move stands. The picture begins with the next create that is answered ok."
 
 
 @dataclass(frozen=True)
