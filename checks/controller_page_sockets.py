@@ -74,7 +74,7 @@ def refused_heads(port: int) -> dict[str, tuple[int, bytes]]:
     own = f"127.0.0.1:{port}"
     usual = request(port)
     return {
-        **{f"the host {it}": (421, request(port, Host=it)) for it in ("example.com", f"example.com:{port}", "127.0.0.1", "127.0.0.1:1", f"{own}.example.com", "")},
+        **{f"the host {it}": (421, request(port, Host=it)) for it in ("example.com", f"example.com:{port}", "127.0.0.1", "127.0.0.1:1", f"{own}.com", "")},
         "no host": (421, request(port, drop="Host")),
         "two hosts": (421, with_line(usual, f"Host: {own}")),
         **{f"the origin {it}": (403, request(port, Origin=it)) for it in ("http://example.com", "null", f"https://{own}", "http://127.0.0.1:1")},
@@ -107,6 +107,7 @@ def refused_bodies(port: int) -> dict[str, tuple[int, bytes]]:
         "a body in chunks": (411, request(port, drop="Content-Length", Transfer_Encoding="chunked")),
         "a body in chunks with a length": (411, request(port, Transfer_Encoding="chunked")),
         "two lengths": (411, with_line(request(port), "Content-Length: 1")),
+        "a body of 25,700 bytes": (413, request(port, body="a" * 25_700)),
         **{f"a length of {it[:9]}": (status, request(port, Content_Length=it)) for it, status in lengths.items()},
         **{f"the body {it[:40]}": (400, request(port, body=it)) for it in BODIES},
         "a line without a key": (400, request(port, "POST /line HTTP/1.1", '{"key":"","line":"keyspace a"}')),
@@ -123,15 +124,19 @@ def refusals(place: Place) -> Cases:
     with serving(place) as served:
         for name, (status, sent) in {**refused_heads(served.port), **refused_bodies(served.port)}.items():
             yield name, wrong(answer_to(served.port, sent), status)
+        yield "what is told of all this", still(served)
+
+
+def answers(place: Place) -> Cases:
+    """What is answered: the page's own request, its files, and the names of the loopback."""
+    with serving(place) as served:
         got, headers, body = parted(answer_to(served.port, request(served.port)))
         yield "the page's own request", [f"{got} {body[:100]}"] * (got != 200) + without_headers(headers)
         for path in ("/", "/look.css", "/controller.css", "/controller.mjs", "/svg.mjs"):
             got, headers, body = parted(answer_to(served.port, request(served.port, f"GET {path} HTTP/1.1", "", "Authorization")))
             yield f"the file {path}", [f"{got} {body[:100]}"] * (got != 200 or len(body) < 500) + without_headers(headers)
-        for host in (f"localhost:{served.port}", f"LOCALHOST:{served.port}"):
-            got, *_ = parted(answer_to(served.port, request(served.port, Host=host, Origin=f"http://{host.lower()}")))
-            yield f"the host {host.partition(':')[0]}", [f"status {got}"] * (got != 200)
-        yield "what is told of all this", still(served)
+        got, *_ = parted(answer_to(served.port, request(served.port, Host=f"LOCALHOST:{served.port}", Origin=f"http://localhost:{served.port}")))
+        yield "the name localhost", [f"status {got}"] * (got != 200)
 
 
 def serving(place: Place) -> contextlib.AbstractContextManager[Serving]:
@@ -214,16 +219,21 @@ def by_chance(served: Serving) -> list[str]:
     chance = random.Random(SEED)
     found = []
     for _ in range(200):
-        odd, whole = chance.randbytes(chance.randrange(1, 300)), bytearray(request(served.port))
-        for _ in range(chance.randrange(1, 6)):
-            whole[chance.randrange(len(whole))] = chance.randrange(256)
-        for sent in (odd + b"\r\n\r\n", bytes(whole)):
+        for sent in (chance.randbytes(chance.randrange(1, 300)) + b"\r\n\r\n", spoilt(request(served.port), chance)):
             with socket.create_connection(("127.0.0.1", served.port)) as connection, contextlib.suppress(ConnectionError):
                 connection.sendall(sent)
                 connection.shutdown(socket.SHUT_WR)
                 answer = connection.recv(65_536)
                 found += [f"{sent!r} is answered {answer[:200]!r}"] * (bool(answer) and not answer.startswith(b"HTTP/1.0 ") or b"Traceback" in answer)
     return found
+
+
+def spoilt(sent: bytes, chance: random.Random) -> bytes:
+    """A request of which some bytes are others."""
+    whole = bytearray(sent)
+    for at in chance.sample(range(len(whole)), chance.randrange(1, 6)):
+        whole[at] = chance.randrange(256)
+    return bytes(whole)
 
 
 def gone(served: Serving) -> list[str]:
@@ -290,5 +300,5 @@ def everywhere(place: Place) -> Cases:
 
 def sockets(place: Place) -> Iterator[tuple[str, list[str]]]:
     """All of these."""
-    for part in (words, refusals, everywhere, floods):
+    for part in (words, refusals, answers, everywhere, floods):
         yield from part(place)

@@ -25,7 +25,8 @@ IN_TURNS = """(async (isSo, most) => {
 SEEN = """(() => {
   const text = (name) => document.getElementById(name).innerText;
   const row = (it) => [it.querySelector("button").textContent, it.querySelector(".answer").textContent];
-  return { rows: [...document.querySelectorAll("#lines li")].map(row), status: text("status"), kind: document.getElementById("status").className, log: text("log"), line: text("line"), words: text("words"),
+  const rows = [...document.querySelectorAll("#lines li")].map(row);
+  return { rows, status: text("status"), kind: document.getElementById("status").className, log: text("log"), line: text("line"), words: text("words"),
     facts: document.getElementById("facts").textContent, columns: document.querySelectorAll("#picture .column").length };
 })()"""
 ROWS = "document.querySelectorAll('#lines li').length"
@@ -157,8 +158,7 @@ def refusals(place: Place, browser: Browser) -> Cases:
         told = page.sent("switch")
         yield "the form of a line", [told] * ("switch W TYPES" not in told)
         before = served.state()["applied"]
-        for line in ("# nothing", "   "):
-            page.type(line)
+        page.type("# nothing")
         yield "a comment", page.tells("line", "that is no line")
         page.tab.value("""(() => { const data = new DataTransfer(); data.setData("text", "keyspace a\\nkeyspace b");
           document.getElementById("field").dispatchEvent(new ClipboardEvent("paste", { clipboardData: data, cancelable: true })); })()""")
