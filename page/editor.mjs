@@ -36,7 +36,7 @@ function editorRow(line, row, place, answers) {
  * An answer beside its line. That a line is refused is shown by a mark too, which is all where there is little room.
  * @param {string} answer
  */
-function answerShown(answer) {
+export function answerShown(answer) {
   const [verb, ...rest] = answer.split(" ");
   if (verb !== "refused") return escaped(answer);
   return element("span", { class: "verb" }, "refused ") + escaped(rest.join(" "));
@@ -59,8 +59,18 @@ export function lineTold(row, line, answer, refusals) {
   return told + (known ? refusalTold(known) : "");
 }
 
-/** @param {{when: string, what_to_do: string}} refusal */
-function refusalTold({ when, what_to_do }) {
-  const part = (/** @type {string} */ name, /** @type {string} */ text) => element("dt", {}, name) + element("dd", {}, escaped(text));
-  return element("dl", {}, part("When", when), part("What to do", what_to_do));
+/**
+ * What a refusal means.
+ * @param {{when: string, what_to_do: string}} refusal
+ */
+export function refusalTold({ when, what_to_do }) {
+  return partsTold([["When", when], ["What to do", what_to_do]]);
+}
+
+/**
+ * Names with a text each.
+ * @param {string[][]} parts
+ */
+export function partsTold(parts) {
+  return element("dl", {}, ...parts.map(([name, text]) => element("dt", {}, escaped(name)) + element("dd", {}, escaped(text))));
 }

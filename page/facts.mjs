@@ -6,7 +6,7 @@
  * @typedef {{direction: "forward" | "back", types: string[], steps: number[], done: number, undone: boolean}} Drive
  * @typedef {{direction: "forward" | "back", shard: string, state: string, position: number, copied: boolean | null, behind: number | null,
  *            rows: number | null}} Stream
- * @typedef {{lines: string[], answers: string[], as_before: number | null}} WayBack
+ * @typedef {{lines: string[], answers: string[], as_before: number | "unseen" | null}} WayBack
  * @typedef {{table: string, type: string, shard: string, at: string | null, write: boolean, refused: boolean, count: number}} Query
  * @typedef {Record<string, Record<string, Record<string, string>>>} Served
  * @typedef {{live: boolean, switched: string[], way: Way | null, drive: Drive | null, streams: Stream[], by_name: Served, primaries: Served,
@@ -15,7 +15,7 @@
  *            steps: string[], journal: number}} Move
  * @typedef {{first: number, last: number, moves: (State | null)[]}} Column
  * @typedef {{version: number, title: string, watchers: string[], lines: Line[], refusals: Record<string, {when: string, what_to_do: string}>,
- *            moves: Move[], columns: Column[]}} Facts
+ *            moves: Move[], columns: Column[], numbers?: number[]}} Facts
  */
 
 /**
@@ -59,13 +59,31 @@ export function wordsIn(text) {
 }
 
 /**
- * The lines of a column.
+ * The lines of a column, as far as they are told.
  * @param {Facts} facts
  * @param {Column} column
  * @returns {Line[]}
  */
-export function linesOf(facts, column) {
-  return facts.lines.slice(column.first - 1, column.last);
+export function linesOf(facts, { first, last }) {
+  const { lines, numbers } = facts;
+  return numbers ? lines.filter((_, place) => first <= numbers[place] && numbers[place] <= last) : lines.slice(first - 1, last);
+}
+
+/**
+ * The number of the line at a place of those that are told.
+ * @param {Facts} facts
+ * @param {number} place
+ */
+export function numberAt({ numbers }, place) {
+  return numbers ? numbers[place] : place + 1;
+}
+
+/**
+ * How many lines stand in a column, told or not.
+ * @param {Column} column
+ */
+export function lineCount({ first, last }) {
+  return last - first + 1;
 }
 
 /**

@@ -31,7 +31,7 @@ export function framed(facts, room, isNarrow) {
 
 /** @param {Facts} facts */
 function headTold(facts) {
-  const { caption, marks } = legend();
+  const { caption, marks } = legend(facts);
   const told = marks.map(({ svg, text }) => element("span", {}, svg, ` ${escaped(text)}`));
   return element("h2", {}, escaped(facts.title)) + element("p", {}, escaped(caption)) + element("p", { class: "legend" }, ...told);
 }

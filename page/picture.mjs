@@ -1,6 +1,6 @@
 /** The picture of a script's moves: a pure function from the facts to SVG. It runs in a browser and in node alike. */
 
-import { linesOf, numbersOf, refusalsOf } from "./facts.mjs";
+import { lineCount, linesOf, numberAt, numbersOf, refusalsOf } from "./facts.mjs";
 import { INK, MARGIN, RED, RULE, SOFT, cross, cut, dot, element, escaped, line, rect, short, stacked, widthOf, words, wrapped } from "./svg.mjs";
 import { descriptionOf, kindOf, labelOf, refusalWords } from "./words.mjs";
 import { REFUSED_FILL, REFUSED_PATTERN } from "./served.mjs";
@@ -19,6 +19,7 @@ const NUMBER_SIZE = 9.5;
 const WIDTHS = { several: [60, 66], quiet: [15, 19], whole: [46, 54], turn: [24, 34], one: [20, 30] };
 const STYLE = 'text{font-family:system-ui,"Segoe UI","DejaVu Sans",sans-serif}.column{fill:transparent}.column:hover{fill:#00000012}';
 const CAPTION = "Time runs from left to right. Each column is a line of the script, named at its foot, and shows what stands behind that line.";
+const CAPTION_OF_LOG = "Time runs from left to right. Each column is a line of the log, or several that came at once, and shows what stands behind the last.";
 
 /**
  * How a picture is to look: how wide it is if its columns have room there; the room before them for labels; how many times as wide as liked a column is at
@@ -108,10 +109,21 @@ const LEGEND = [
   [(x, y) => rect(x - 7, y - 2.5, 14, 5, RED), "a stream is behind; −2: by two entries"],
 ];
 
-/** How to read the picture, and each of its marks as an SVG element, with what it means. */
-export function legend() {
+/**
+ * How a picture of facts is read.
+ * @param {Facts} facts
+ */
+function captionOf({ numbers }) {
+  return numbers ? CAPTION_OF_LOG : CAPTION;
+}
+
+/**
+ * How to read a picture of facts, and each of its marks as an SVG element, with what it means.
+ * @param {Facts} facts
+ */
+export function legend(facts) {
   const box = { xmlns: "http://www.w3.org/2000/svg", viewBox: "0 0 18 18", width: 18, height: 18, "aria-hidden": "true" };
-  return { caption: CAPTION, marks: LEGEND.map(([drawn, text]) => ({ svg: element("svg", box, drawn(9, 9)), text })) };
+  return { caption: captionOf(facts), marks: LEGEND.map(([drawn, text]) => ({ svg: element("svg", box, drawn(9, 9)), text })) };
 }
 
 /**
@@ -126,7 +138,7 @@ function headDrawn(facts) {
     x += widthOf(text) + 44;
     return mark;
   });
-  return { svg: title + words(MARGIN, 50, CAPTION, { fill: SOFT }) + marks.join(""), bottom: 84 };
+  return { svg: title + words(MARGIN, 50, captionOf(facts), { fill: SOFT }) + marks.join(""), bottom: 84 };
 }
 
 /**
@@ -194,8 +206,9 @@ function refusalDrawn(facts, name, top) {
 function pointedAt(facts, xs, top, bottom) {
   return facts.columns.map((column, place) => {
     const lines = linesOf(facts, column).slice(0, 12);
-    const told = lines.map(({ text, answer }, at) => `${column.first + at}  ${cut(text, 120)}\n      ${cut(answer, 160)}`);
-    const more = column.last - column.first + 1 > lines.length ? ["..."] : [];
+    const from = facts.lines.indexOf(lines[0]);
+    const told = lines.map(({ text, answer }, at) => `${numberAt(facts, from + at)}  ${cut(text, 120)}\n      ${cut(answer, 160)}`);
+    const more = lineCount(column) > lines.length ? ["..."] : [];
     const refused = refusalsOf(facts, column).map((name) => `${name}: ${refusalWords(facts, name)}`);
     const title = element("title", {}, escaped([...told, ...more, ...refused].join("\n")));
     const box = { x: xs[place], y: top, width: xs[place + 1] - xs[place], height: bottom - top };

@@ -1,6 +1,6 @@
 /** The steps of switches and reversals: how many stand done behind each column, and the journal, behind which none is undone. */
 
-import { counted, refusalIn, wordsIn } from "./facts.mjs";
+import { counted, linesOf, refusalIn, wordsIn } from "./facts.mjs";
 import { labelRoomOf } from "./lanes.mjs";
 import { GREEN, HALO, INK, RED, RULE, SMALL, SOFT, TEAL, cross, cut, element, firstThatFits, line, rect, short, words } from "./svg.mjs";
 
@@ -146,8 +146,8 @@ function shardWords(move, way, { left, right }, y) {
  */
 function closedColumn(panel, column, before, { left, middle, yOf }) {
   const steps = panel.states[column - 1]?.way?.steps ?? [];
-  const [verb] = wordsIn(panel.facts.lines[panel.facts.columns[column].first - 1].text);
-  const isUndone = verb === "undo";
+  const words = linesOf(panel.facts, panel.facts.columns[column]).map(({ text }) => wordsIn(text));
+  const isUndone = words.filter(([, workflow]) => workflow === panel.move.workflow).pop()?.[0] === "undo";
   const end = levelOf(steps, isUndone ? 0 : steps.length);
   const climb = path([[left, yOf(before)], [left, yOf(end)], [middle, yOf(end)]], isUndone ? TEAL : INK);
   return climb + element("circle", { cx: middle, cy: yOf(end), r: 4.5, fill: isUndone ? TEAL : GREEN, stroke: "#ffffff", "stroke-width": 1.2 });
@@ -188,9 +188,10 @@ function upright(text, x, y, colour) {
  * @param {number} column
  */
 function isRefusedStep({ facts, move }, column) {
-  const { text, answer } = facts.lines[facts.columns[column].first - 1];
-  const [verb, workflow] = wordsIn(text);
-  return ["step", "undo", "switch", "reverse"].includes(verb) && workflow === move.workflow && refusalIn(answer) !== null;
+  return linesOf(facts, facts.columns[column]).some(({ text, answer }) => {
+    const [verb, workflow] = wordsIn(text);
+    return ["step", "undo", "switch", "reverse"].includes(verb) && workflow === move.workflow && refusalIn(answer) !== null;
+  });
 }
 
 /** @param {number[][]} points @param {string} colour */

@@ -1,6 +1,6 @@
 /** The facts as tables of HTML: each line with its answer, and what stands behind each column. */
 
-import { TYPES, numbersOf, refusalIn, serverOf } from "./facts.mjs";
+import { TYPES, numberAt, numbersOf, refusalIn, serverOf } from "./facts.mjs";
 import { cut, escaped } from "./svg.mjs";
 import { moveSentence, phaseOf, refusalWords, streamTexts, wayBackOf } from "./words.mjs";
 
@@ -20,7 +20,7 @@ export function linesTable(facts) {
     const note = line.note ? `<tr class="note"><td></td><td colspan="2">${escaped(line.note)}</td></tr>` : "";
     const refusal = refusalIn(line.answer);
     const means = refusal ? `<span class="means">${escaped(refusalWords(facts, refusal))}</span>` : "";
-    const cells = `<th scope="row">${place + 1}</th><td><code>${escaped(cut(line.text, LONGEST_ANSWER))}</code></td>`;
+    const cells = `<th scope="row">${numberAt(facts, place)}</th><td><code>${escaped(cut(line.text, LONGEST_ANSWER))}</code></td>`;
     return `${note}<tr${refusal ? ' class="refused"' : ""}>${cells}<td><code>${escaped(cut(line.answer, LONGEST_ANSWER))}</code>${means}</td></tr>`;
   });
   return tableOf(["Line", "The line", "Its answer"], rows);

@@ -1,6 +1,6 @@
 /** How the facts are put into words, in the drawing and in the tables beside it. */
 
-import { TYPES, counted, linesOf, numbersOf, refusalIn, refusalsOf, stretches, wordsIn } from "./facts.mjs";
+import { TYPES, counted, lineCount, linesOf, numbersOf, refusalIn, refusalsOf, stretches, wordsIn } from "./facts.mjs";
 import { BROWN, GREEN, RED, SOFT, TEAL, cut } from "./svg.mjs";
 
 /** @typedef {import("./facts.mjs").Facts} Facts */
@@ -24,7 +24,7 @@ const COLOURS_BACK = { cancel: GREEN, undo: TEAL, reverse: BROWN };
  */
 export function phaseOf(facts, move, state) {
   if (!state) return { kind: "none", texts: ["not begun", "before"] };
-  if (!state.live) return { kind: "none", texts: [`ended: ${endOf(facts, move)}`, "ended"] };
+  if (!state.live) return { kind: "none", texts: endTexts(facts, move) };
   if (state.way) return { kind: "way", texts: wayTexts(state.way) };
   if (state.streams.some((stream) => stream.copied === false)) return { kind: "rest", texts: ["copying"] };
   if (!state.switched.length) return { kind: "rest", texts: ["copied, not switched", "copied"] };
@@ -39,12 +39,13 @@ function wayTexts(way) {
 }
 
 /**
- * How a move ended: by which line.
+ * How a move ended: by which line, if it is told.
  * @param {Facts} facts
  * @param {Move} move
  */
-function endOf(facts, move) {
-  return move.ended === null ? "" : ENDS[wordsIn(facts.lines[move.ended - 1].text)[0]];
+function endTexts(facts, { ended }) {
+  const [line] = ended === null ? [] : linesOf(facts, { first: ended, last: ended, moves: [] });
+  return line ? [`ended: ${ENDS[wordsIn(line.text)[0]]}`, "ended"] : ["ended"];
 }
 
 /**
@@ -61,6 +62,7 @@ export function wayBackOf(state) {
   if (refusal === "F19 PastJournal") return { colour: RED, texts: ["none: finish the steps, then go back", "none: finish the steps", "none"] };
   if (refusal) return { colour: RED, texts: [`${verb} is answered ${answer}`, `${verb}: ${refusal}`, "refused"] };
   if (tried.as_before === null) return { colour: RED, texts: [`${verb}: not as before`] };
+  if (tried.as_before === "unseen") return { colour: COLOURS_BACK[verb], texts: [`${verb}: is answered ok`, verb] };
   const where = verb === "cancel" ? "create" : state.way?.direction === "back" ? "the reversal" : "the switch";
   return { colour: COLOURS_BACK[verb], texts: [`${verb}: as before ${where}`, verb] };
 }
@@ -85,17 +87,22 @@ export function streamTexts(stream) {
 export function labelOf(facts, column) {
   const lines = linesOf(facts, column);
   const isSetUp = column.first === 1 && column.moves.every((state) => state === null);
-  const text = isSetUp ? `${counted(lines.length, "line")} of set-up` : lines.length > 1 ? severalLabel(lines) : lineLabel(lines[0].text);
+  const count = lineCount(column);
+  const text = isSetUp ? `${counted(count, "line")} of set-up` : count > 1 ? severalLabel(lines, count) : lineLabel(lines[0].text);
   const refused = refusalsOf(facts, column);
   return refused.length ? `${cut(text, 34)}  ${refused.join(", ")}` : cut(text, 40);
 }
 
 /**
- * Several lines of a kind in few words.
- * @param {import("./facts.mjs").Line[]} lines
+ * Several lines in few words: of what kind they are, if all are told and of one.
+ * @param {import("./facts.mjs").Line[]} lines those that are told
+ * @param {number} count how many there are
  */
-function severalLabel(lines) {
-  return wordsIn(lines[0].text)[0] === "advance" ? `${lines.length} turns of streams` : counted(lines.length, "client line");
+function severalLabel(lines, count) {
+  const verbs = lines.map(({ text }) => wordsIn(text)[0]);
+  if (lines.length < count || !verbs.every((verb) => (verb === "advance") === (verbs[0] === "advance"))) return counted(count, "line");
+  if (verbs[0] === "advance") return `${count} turns of streams`;
+  return counted(count, verbs.every((verb) => [...CLIENT_VERBS, "at"].includes(verb)) ? "client line" : "line");
 }
 
 /**
@@ -133,7 +140,7 @@ function shortKey(key) {
  */
 export function kindOf(facts, column) {
   if (column.first !== column.last) return "several";
-  const { text, answer } = facts.lines[column.first - 1];
+  const [{ text, answer }] = linesOf(facts, column);
   const [verb, , third] = wordsIn(text);
   const isRefused = refusalIn(answer) !== null;
   if (["switch", "reverse"].includes(verb) || (["create", "cancel", "complete"].includes(verb) && !isRefused)) return "whole";

@@ -1,4 +1,4 @@
-"""The page in which the controller runs, as one file: the module, the drawing, the examples and what docs/SCRIPT.md says of refusals, put into page/index.html."""
+"""The page in which the controller runs, as one file: its look, the module, the drawing, the examples and what docs/SCRIPT.md says of refusals, put into page/index.html."""
 from __future__ import annotations
 
 import base64
@@ -28,6 +28,7 @@ def page_text(module: bytes) -> str:
     """The page, with this module inside."""
     scripts = sorted(EXAMPLES.glob("*.script"))
     parts = {
+        "look": (FOLDER / "look.css").read_text(encoding="utf-8"),
         "choices": "".join(map(choice_of, scripts)),
         "examples": data_text([{"name": it.stem, "text": it.read_text(encoding="utf-8")} for it in scripts]),
         "refusals": data_text(plain_refusals(read_script_page().refusals.values())),

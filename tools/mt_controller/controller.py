@@ -53,7 +53,8 @@ class Controller:
     """One of the controllers of a log. `submit` may be called by several threads; one more appends and applies.
 
     What ends it is in `ended`: None behind a `close`, else one of `Stopped`; then all that wait are told, and nothing is applied any more. `applied` counts
-    the lines, `last` has the last ones, `creates` by its name the last line that created a workflow: they are read and waited for under `changed`.
+    the lines, `last` has the last ones, `creates` by its name the last line that created a workflow, `away` why the log doesn't answer at the moment: they are
+    read and waited for under `changed`.
     """
 
     def __init__(self, log: Log, keyspaces: Sequence[str], tell: Callable[[str], None]) -> None:
@@ -68,6 +69,7 @@ class Controller:
         self.applied = 0
         self.last: deque[Applied] = deque(maxlen=LAST_LINES)
         self.creates: dict[str, Applied] = {}
+        self.away: str | None = None
         self.changed = threading.Condition()
         self.ended: Future[BaseException | None] = Future()
         self._digest = hashlib.sha256()  # of the answers so far, as `mt run` writes them
@@ -202,18 +204,23 @@ class Controller:
 
     def _reached(self, call: Callable[[], object]) -> object:
         """What a call gives once the log can be reached."""
-        told = False
         while True:
             try:
                 result = call()
-                if told:
+                if self.away is not None:
                     self._tell("the log answers again")
+                    self._is_away(None)
                 return result
             except LogUnreachable as why:
-                if not told:
+                if self.away is None:
                     self._tell(f"the log doesn't answer, and nothing is answered until it does: {why}")
-                told = True
+                self._is_away(str(why))
                 time.sleep(TRIES_EVERY)
+
+    def _is_away(self, why: str | None) -> None:
+        with self.changed:
+            self.away = why
+            self.changed.notify_all()
 
     def _apply(self, text: bytes) -> list[str]:
         """The answers to the lines of the entry at the next place. Raises `WrongLog` if it doesn't follow what was applied, or `CoreFailed`."""

@@ -1,7 +1,7 @@
 """The controller's core in a process of its own: one session of the library, which lines are applied to, and copies of it that answer questions.
 
 A copy is a fork: what a question changes there is gone with it, whatever came before, without playing any line again. The process that forks has one thread,
-so that a copy is whole.
+so that a copy is whole. A copy may also stay for some while, and be asked again and again of the state that it has.
 """
 from __future__ import annotations
 
@@ -9,10 +9,13 @@ import multiprocessing
 import os
 import pathlib
 import signal
+import socket
 import sys
 import threading
 from collections.abc import Sequence
+from multiprocessing import reduction
 from multiprocessing.connection import Connection
+from typing import Any
 
 TOP = pathlib.Path(__file__).resolve().parents[2]
 # the module stands beside the library where mt was unpacked or installed
@@ -20,6 +23,7 @@ sys.path.insert(0, str(TOP / "lib" if (TOP / "lib/mt.py").exists() else TOP / "e
 import mt
 
 Answered = list[str]
+APPLY, ASK, COPY = "apply", "ask", "copy"  # what the core's process is told to do
 
 
 class CoreFailed(Exception):
@@ -41,37 +45,70 @@ class Core:
         self._process.start()
         theirs.close()
         self._lock = threading.Lock()
-        self._told()
+        _told(self._connection)
 
     def apply(self, lines: Sequence[str]) -> Answered:
         """The answers to lines, which are applied in their order. Raises `CoreFailed`; then some may have been."""
-        return self._asked(True, lines)
+        return self._asked(APPLY, lines)
 
     def ask(self, lines: Sequence[str]) -> Answered:
         """The answers to lines, of which nothing stays. Raises `CoreFailed`."""
-        return self._asked(False, lines)
+        return self._asked(ASK, lines)
+
+    def copy(self) -> Copy:
+        """A copy that stays as the core is now, until it is closed. Raises `CoreFailed`."""
+        with self._lock:
+            applied = self._answered(COPY, ())
+            try:
+                return Copy(Connection(reduction.recv_handle(self._connection)), applied)
+            except (EOFError, OSError, RuntimeError) as why:
+                raise CoreFailed("the core's process has ended") from why
 
     def close(self) -> None:
         """Ends the process."""
         self._connection.close()
         self._process.join()
 
-    def _asked(self, stays: bool, lines: Sequence[str]) -> Answered:
+    def _asked(self, what: str, lines: Sequence[str]) -> Answered:
         with self._lock:
-            try:
-                self._connection.send((stays, lines))
-            except OSError as why:
-                raise CoreFailed(f"the core's process has ended: {why}") from why
-            return self._told()
+            return self._answered(what, lines)
 
-    def _told(self) -> Answered:
+    def _answered(self, what: str, lines: Sequence[str]) -> Any:
         try:
-            told: Answered | str = self._connection.recv()
-        except (EOFError, OSError) as why:
-            raise CoreFailed("the core's process has ended") from why
-        if isinstance(told, str):
-            raise CoreFailed(told)
-        return told
+            self._connection.send((what, lines))
+        except OSError as why:
+            raise CoreFailed(f"the core's process has ended: {why}") from why
+        return _told(self._connection)
+
+
+class Copy:
+    """The core as it was behind its first `applied` lines, in a process of its own. One thread may use it."""
+
+    def __init__(self, connection: Connection, applied: int) -> None:
+        self._connection, self.applied = connection, applied
+
+    def ask(self, lines: Sequence[str]) -> Answered:
+        """The answers to lines, of which nothing stays. Raises `CoreFailed`."""
+        try:
+            self._connection.send((ASK, lines))
+        except OSError as why:
+            raise CoreFailed(f"a copy of the core has ended: {why}") from why
+        return _told(self._connection)
+
+    def close(self) -> None:
+        """Ends the copy."""
+        self._connection.close()
+
+
+def _told(connection: Connection) -> Any:
+    """What a process answers. Raises `CoreFailed` if it has ended, or tells that it can't."""
+    try:
+        told = connection.recv()
+    except (EOFError, OSError) as why:
+        raise CoreFailed("the core's process has ended") from why
+    if isinstance(told, str):
+        raise CoreFailed(told)
+    return told
 
 
 def _serve(connection: Connection, other_end: Connection, watched: tuple[str, ...]) -> None:
@@ -81,20 +118,30 @@ def _serve(connection: Connection, other_end: Connection, watched: tuple[str, ..
     try:
         session = mt.Session(watched)
         connection.send([])
-        while True:
-            stays, lines = connection.recv()
-            _answer(connection, session, stays, lines)
+        _answer_all(connection, session)
     except mt.Error as why:
         connection.send(str(why))
     except (EOFError, OSError):
         pass
 
 
-def _answer(connection: Connection, session: mt.Session, stays: bool, lines: Sequence[str]) -> None:
-    """Answers lines in this process, or in a copy of it if nothing is to stay. Raises `mt.Error`, and `OSError` if nobody hears it."""
-    if stays:
-        connection.send([session.command(f"{line}\n") for line in lines])
-        return
+def _answer_all(connection: Connection, session: mt.Session) -> None:
+    """Answers until nobody asks any more. Raises `mt.Error`, and `EOFError` or `OSError` at the end."""
+    applied, copies = 0, []
+    while True:
+        what, lines = connection.recv()
+        if what == APPLY:
+            connection.send([session.command(f"{line}\n") for line in lines])
+            applied += len(lines)
+        elif what == ASK:
+            _answer_by_copy(connection, session, lines)
+        else:
+            copies = [it for it in copies if os.waitpid(it, os.WNOHANG) == (0, 0)]
+            copies += _handed_out(connection, session, applied)
+
+
+def _answer_by_copy(connection: Connection, session: mt.Session, lines: Sequence[str]) -> None:
+    """Answers lines in a copy of this process, which then ends."""
     try:
         copy = os.fork()
     except OSError as why:
@@ -115,3 +162,32 @@ def _answer_and_end(connection: Connection, session: mt.Session, lines: Sequence
         status = 0
     finally:
         os._exit(status)
+
+
+def _handed_out(connection: Connection, session: mt.Session, applied: int) -> list[int]:
+    """The process of a copy that stays, whose other end is handed to who asked; none if there can't be one, which is told."""
+    try:
+        theirs, ours = socket.socketpair()
+        copy = os.fork()
+    except OSError as why:
+        connection.send(f"there is no copy of the core: {why}")
+        return []
+    if copy == 0:
+        theirs.close()
+        connection.close()
+        _stay(Connection(ours.detach()), session)
+    ours.close()
+    connection.send(applied)
+    reduction.send_handle(connection, theirs.fileno(), os.getppid())
+    theirs.close()
+    return [copy]
+
+
+def _stay(connection: Connection, session: mt.Session) -> None:
+    """Answers in a copy what is asked of it, until its other end is closed; then the copy ends."""
+    try:
+        while True:
+            _, lines = connection.recv()
+            _answer_by_copy(connection, session, lines)
+    finally:
+        os._exit(0)

@@ -6,6 +6,7 @@ from collections.abc import Mapping, Sequence
 from dataclasses import asdict, dataclass
 
 VERSION = 1
+UNSEEN = "unseen"
 Served = Mapping[str, Mapping[str, Mapping[str, str]]]
 
 
@@ -75,12 +76,13 @@ class StreamFacts:
 class WayBack:
     """The way back that was tried in a run of its own: its lines up to the first that was refused, with their answers.
 
-    `as_before` is the number of the line before which the move had the same of the topology; None if it had another, or a line was refused.
+    `as_before` is the number of the line before which the move had the same of the topology; None if it had another, or a line was refused; `UNSEEN` if no
+    line was refused, and what it had before isn't known.
     """
 
     lines: Sequence[str]
     answers: Sequence[str]
-    as_before: int | None
+    as_before: int | str | None
 
 
 @dataclass(frozen=True)
@@ -130,6 +132,11 @@ class Facts:
     refusals: Mapping[str, Mapping[str, str]]
     moves: Sequence[MoveFacts]
     columns: Sequence[Column]
+
+
+def document_of_some(facts: Facts, numbers: Sequence[int]) -> dict[str, object]:
+    """The document of a log of which only some lines are told: those of these numbers."""
+    return {"version": VERSION, **asdict(facts), "numbers": numbers}
 
 
 def document_text(facts: Facts) -> str:

@@ -30,13 +30,13 @@ def gather(program: Program, script: Script, page: ScriptPage) -> Facts:
         title=script.title or f"{moves[0].workflow} moves {', '.join(moves[0].tables)} from {moves[0].source} to {moves[0].target}",
         watchers=script.watchers,
         lines=[Line(script.shown(place), answer, script.notes.get(place)) for place, answer in enumerate(answers)],
-        refusals=_refusals(answers, page),
+        refusals=refusals_of(answers, page),
         moves=[it.move_facts() for it in histories],
         columns=[Column(lines.start + 1, lines.stop, [it.state(place) for it in histories]) for place, lines in enumerate(columns.places)],
     )
 
 
-def _refusals(answers: Iterable[str], page: ScriptPage) -> dict[str, dict[str, str]]:
+def refusals_of(answers: Iterable[str], page: ScriptPage) -> dict[str, dict[str, str]]:
     """What docs/SCRIPT.md says of each refusal that was answered, without its marks."""
     told = {name: page.refusal_of(answer) for answer in answers if (name := refusal_name(answer))}
     return plain_refusals(it for it in told.values() if it)

@@ -50,19 +50,14 @@ class Columns:
         """The switch or the reversal in one line that a column is of a move; None if it is none, or was refused as it began."""
         place = column.start
         line, answer = self.script.lines[place], self.answers[place]
-        words = words_of(line)
-        if words[0] not in DRIVES or words[1:2] != [move.workflow] or not move.lives(place) or is_refused(answer):
+        if not move.lives(place) or not is_drive(line, answer, move.workflow):
             return None
         return drive_facts(self.program, self.script.lines[:place], line, answer, move.shards)
 
     def queries(self, column: range, move: Begun) -> list[Query]:
         """The clients' lines of a column that ask for a move's tables."""
-        lines = [(self.script.lines[place], is_refusal(self.answers[place])) for place in column if self.is_well_formed(place)]
+        lines = [(self.script.lines[place], is_refusal(self.answers[place])) for place in column if is_well_formed(self.answers[place])]
         return queries_of(lines, move, move.lives(column.stop - 1))
-
-    def is_well_formed(self, place: int) -> bool:
-        """Whether a line has the form of one: those that haven't are refused by other letters."""
-        return (refusal_name(self.answers[place]) or "F")[0] in "FT"
 
 
 class History:
@@ -97,8 +92,8 @@ class History:
             way=way_facts(shown.way, self.move.shards) if shown and shown.way else None,
             drive=behind.drives[self.place],
             streams=behind.streams[self.place],
-            by_name=_served(reads, behind.looked.topology, True),
-            primaries=_served(reads, behind.looked.topology, False),
+            by_name=served_tables(reads, behind.looked.topology, True),
+            primaries=served_tables(reads, behind.looked.topology, False),
             way_back=self.way_back(column),
             queries=self.columns.queries(lines, self.move),
         )
@@ -133,7 +128,18 @@ class History:
         return not behind.switched or shown.way is not None or bool(shown.switched)
 
 
-def _served(reads: Mapping[Read, str], topology: Topology, by_name: bool) -> Served:
+def is_well_formed(answer: str) -> bool:
+    """Whether a line that was answered so has the form of one: those that haven't are refused by other letters."""
+    return (refusal_name(answer) or "F")[0] in "FT"
+
+
+def is_drive(line: str, answer: str, workflow: str) -> bool:
+    """Whether a line is a whole switch or reversal of a workflow that wasn't refused as it began."""
+    words = words_of(line)
+    return words[0] in DRIVES and words[1:2] == [workflow] and not is_refused(answer)
+
+
+def served_tables(reads: Mapping[Read, str], topology: Topology, by_name: bool) -> Served:
     """Who serves each table by its name, by type and shard; or which primaries are open to it, by keyspace and shard."""
     found: dict[str, dict[str, dict[str, str]]] = {}
     for read, answer in reads.items():

@@ -3,7 +3,7 @@ from __future__ import annotations
 
 import os
 import pathlib
-from collections.abc import Callable, Iterable, Iterator, Sequence
+from collections.abc import Callable, Iterable, Iterator, Mapping, Sequence
 
 from mt_prompt.typed import Script, running_streams, without_comment
 from mt_runs.program import ProgramFailed, is_silent
@@ -27,6 +27,7 @@ OWN_LINES = {
     "help": ("help [WORD]", "all lines; or those that begin with a word, or a refusal, as `help F9`"),
     "quit": ("quit", "ends, and so does Ctrl-D"),
 }
+SHORT_LINES = {verb: OWN_LINES[verb] for verb in ("advance", "step", "undo")}  # which stand for lines of the language
 
 
 class Prompt:
@@ -73,17 +74,8 @@ class Prompt:
             yield from self._on_refusal(answer, full.split()[0])
 
     def _on_refusal(self, answer: str, word: str) -> Iterator[str]:
-        refusal = self.page.refusal_of(answer)
-        if not refusal:
-            return
-        forms = [*(it.form for it in self.page.forms.get(word, ())), *(form for verb, (form, _) in OWN_LINES.items() if verb == word)]
-        if refusal.name == "X1 BadLine" and forms:
-            yield f"    form:  {'  or  '.join(forms)}"
-        elif refusal.name == "X1 BadLine":
-            yield f"    there is no line that begins with {ascii(word)}: `help` lists them"
-            return
-        yield f"    when:  {refusal.when}"
-        yield f"    do:    {refusal.what_to_do}"
+        for name, text in meanings(self.page, answer, word, OWN_LINES):
+            yield f"    {f'{name}:':6} {text}" if name else f"    {text}: `help` lists them"
 
     # ---- lines of the prompt
 
@@ -144,6 +136,24 @@ class Prompt:
     def _quit(self, words: list[str]) -> Iterator[str]:
         self.has_ended = True
         yield from ()
+
+
+def meanings(page: ScriptPage, answer: str, word: str, own: Mapping[str, tuple[str, str]]) -> Iterator[tuple[str, str]]:
+    """What a refusal means to who typed a line that begins with a word, if its answer is one; `own` are lines beside those of the language.
+
+    Under `form` it is how such lines are written, if that wasn't kept, under `when` and `do` what the page says, and under nothing that there is no such line.
+    """
+    refusal = page.refusal_of(answer)
+    if not refusal:
+        return
+    forms = [*(it.form for it in page.forms.get(word, ())), *(form for verb, (form, _) in own.items() if verb == word)]
+    if refusal.name == "X1 BadLine" and forms:
+        yield "form", "  or  ".join(forms)
+    elif refusal.name == "X1 BadLine":
+        yield "", f"there is no line that begins with {ascii(word)}"
+        return
+    yield "when", refusal.when
+    yield "do", refusal.what_to_do
 
 
 def _first_keys(topology: Topology, place: str | None) -> dict[str, int]:
