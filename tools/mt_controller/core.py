@@ -5,6 +5,8 @@ so that a copy is whole.
 """
 from __future__ import annotations
 
+import ctypes
+import errno
 import multiprocessing
 import os
 import pathlib
@@ -18,6 +20,7 @@ sys.path.insert(0, str(pathlib.Path(__file__).resolve().parents[2] / "embed"))
 import mt
 
 Answered = list[str]
+NO_MEMORY = "there was no memory for a line, as there may be elsewhere, so this controller stops"
 
 
 class CoreFailed(Exception):
@@ -81,14 +84,16 @@ def _serve(connection: Connection, other_end: Connection, watched: tuple[str, ..
             _answer(connection, session, stays, lines)
     except mt.Error as why:
         connection.send(str(why))
+    except MemoryError:
+        connection.send(NO_MEMORY)
     except (EOFError, OSError):
         pass
 
 
 def _answer(connection: Connection, session: mt.Session, stays: bool, lines: Sequence[str]) -> None:
-    """Answers lines in this process, or in a copy of it if nothing is to stay. Raises `mt.Error`, and `OSError` if nobody hears it."""
+    """Answers lines in this process, or in a copy of it if nothing is to stay. Raises `mt.Error`, `MemoryError`, and `OSError` if nobody hears it."""
     if stays:
-        connection.send([session.command(f"{line}\n") for line in lines])
+        connection.send(_answers(session, lines))
         return
     try:
         copy = os.fork()
@@ -102,11 +107,22 @@ def _answer(connection: Connection, session: mt.Session, stays: bool, lines: Seq
         connection.send("a copy of the core ended before it had answered")
 
 
+def _answers(session: mt.Session, lines: Sequence[str]) -> Answered:
+    """The answers to lines. Raises `mt.Error`, and `MemoryError` if the library found no memory for something of them and answered all the same:
+    with a refusal, or a turn of a stream that ends early, which it wouldn't be where there is memory.
+    """
+    ctypes.set_errno(0)
+    answers = [session.command(f"{line}\n") for line in lines]
+    if ctypes.get_errno() == errno.ENOMEM:
+        raise MemoryError
+    return answers
+
+
 def _answer_and_end(connection: Connection, session: mt.Session, lines: Sequence[str]) -> None:
     """Answers lines in a copy, and ends it at once."""
     status = 1
     try:
-        connection.send([session.command(f"{line}\n") for line in lines])
+        connection.send(_answers(session, lines))
         status = 0
     finally:
         os._exit(status)
