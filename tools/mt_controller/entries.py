@@ -79,7 +79,7 @@ def read_head(text: bytes) -> tuple[str, ...]:
     if head["version"] != VERSION:
         raise WrongLog(f"the log is of version {head['version']}, and this controller's is {VERSION}")
     watched = head.get("watched")
-    if not isinstance(watched, list) or not all(isinstance(it, str) for it in watched) or text != head_text(watched):
+    if not isinstance(watched, list) or not all(map(is_line, watched)) or text != head_text(watched):
         _not_ours(0, text)
     return tuple(watched)
 
@@ -94,7 +94,7 @@ def read_entry(text: bytes, place: int) -> Entry:
         entry = Entry(**members)
     except TypeError:
         _not_ours(place, text)
-    if entry.text() != text:
+    if entry.text() != text or type(entry.place) is not int:
         _not_ours(place, text)
     if entry.place != place:
         raise WrongLog(f"the entry at place {place} of the log was written for place {entry.place}")
