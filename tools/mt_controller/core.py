@@ -20,6 +20,7 @@ sys.path.insert(0, str(pathlib.Path(__file__).resolve().parents[2] / "embed"))
 import mt
 
 Answered = list[str]
+SPARE = 1 << 20  # bytes that are kept to tell with that there is no memory
 NO_MEMORY = "there was no memory for a line, as there may be elsewhere, so this controller stops"
 
 
@@ -76,6 +77,7 @@ def _serve(connection: Connection, other_end: Connection, watched: tuple[str, ..
     """Answers what is asked over a connection, until its other end is closed."""
     other_end.close()
     signal.signal(signal.SIGINT, signal.SIG_IGN)  # it ends with who asks it
+    spare = bytearray(SPARE)
     try:
         session = mt.Session(watched)
         connection.send([])
@@ -85,6 +87,7 @@ def _serve(connection: Connection, other_end: Connection, watched: tuple[str, ..
     except mt.Error as why:
         connection.send(str(why))
     except MemoryError:
+        del spare
         connection.send(NO_MEMORY)
     except (EOFError, OSError):
         pass
