@@ -1,0 +1,88 @@
+"""Copies of the controller with a fault each, which a case has to see."""
+from __future__ import annotations
+
+import dataclasses
+import pathlib
+import shutil
+from collections.abc import Callable, Sequence
+
+import controller_crowds as crowds
+import controller_files as files
+import controller_lines as lines
+import controller_wrong as wrong
+from controller_logs import EtcdAt, Nodes, SqliteAt
+from controller_runs import Bench, Case, Tally, skipped
+
+TOP = pathlib.Path(__file__).resolve().parent.parent
+PATIENCE = 6.0  # seconds until what doesn't come isn't waited for any more
+Replaced = Sequence[tuple[str, str, str]]  # a file, the text that goes, the text that comes
+
+APPLIED_FIRST = [
+    ("controller", "iter(self._append([line for it in asked for line in it.lines]))", "iter(self.core.ask([line for it in asked for line in it.lines]))"),
+    ("controller", "[next(answers) for _ in it.lines])\n", "[next(answers) for _ in it.lines])\n        self._append([line for it in asked for line in it.lines])\n"),
+]
+REPLACED = [
+    ("sqlite_log", "            if place in stand:\n                return False\n", ""),
+    ("sqlite_log", '"INSERT INTO entries', '"INSERT OR REPLACE INTO entries'),
+]
+IN_FILES: list[tuple[str, Replaced, Callable[[Bench], list[str]]]] = [
+    ("it answers before it appends", APPLIED_FIRST, crowds.held_up),
+    ("a digest that isn't compared", [("controller", "if entry.answers != self._digest.hexdigest():", "if False:")], lambda it: spoilt(it, "other answers before it")),
+    ("an entry before that isn't compared", [("controller", "if entry.before != sum_of(self._before):", "if False:")], lambda it: spoilt(it, "an entry that was changed")),
+    ("a place that a second one takes", REPLACED, lambda it: crowds.three(it, SqliteAt(it.folder() / "log"))),
+    ("an entry put behind another", [("sqlite_log", "if place and stand.get(place - 1) != before:", "if False:")], lambda it: wrong.set_back(it, wrong.in_files(it))),
+    ("answers in another order", [("controller", "        for it in asked:\n            it.answers.set_result(", "        for it in reversed(asked):\n            it.answers.set_result(")], lines.grouped),
+    ("an answer that isn't flushed", [("batch", "        sys.stdout.flush()\n", "")], lines.each_at_once),
+    ("a line without memory that is answered", [("core", "if ctypes.get_errno() == errno.ENOMEM:", "if False:")], files.copied_without),
+    ("an open input that holds it", [("batch", 'open(sys.stdin.fileno(), "rb", closefd=False)', "sys.stdin.buffer")], files.limited),
+]
+LOOKED_FOR = "self._log.append(self._place, text, self._before) or self._log.read(self._place)[:1] == [text]"
+FREE = '"compare": [{"key": key, "result": "EQUAL", "target": "CREATE", "create_revision": "0"}, *follows],'
+BEHIND = '"result": "EQUAL", "target": "VALUE", "value": base64.b64encode(before).decode()'
+
+
+def spoilt(bench: Bench, name: str) -> list[str]:
+    """A log in SQLite that was spoilt."""
+    return wrong.one_spoilt(bench, wrong.in_files(bench), name)
+
+
+def in_etcd(nodes: Nodes | None) -> list[tuple[str, Replaced, Callable[[Bench], list[str]]]]:
+    """The faults that are seen with etcd."""
+    return [
+        ("a second try without a look", [("controller", LOOKED_FOR, LOOKED_FOR.partition(" or ")[0])], lambda it: crowds.through_losses(it, nodes, 40)),
+        ("a place that needn't be free", [("etcd_log", FREE, '"compare": follows,')], lambda it: crowds.three(it, EtcdAt(nodes, f"/mt/{it.folder().name}"))),
+        ("an entry of etcd put behind another", [("etcd_log", BEHIND, BEHIND.replace("EQUAL", "GREATER").replace("(before)", '(b"")'))], lambda it: wrong.set_back(it, wrong.in_etcd(it, nodes))),
+    ]
+
+
+def copied(to: pathlib.Path, replaced: Replaced) -> list[str]:
+    """Makes a copy of the controller with other texts; what doesn't stand there once."""
+    for name in ("controller", "mt_controller", "mt_prompt", "mt_runs"):
+        (shutil.copytree if (TOP / "tools" / name).is_dir() else shutil.copy)(TOP / "tools" / name, to / "tools" / name)
+    for name in ("embed", "out", "docs"):
+        (to / name).symlink_to(TOP / name)
+    odd = []
+    for name, old, new in replaced:
+        path = to / f"tools/mt_controller/{name}.py"
+        text = path.read_text()
+        odd += [f"{old} stands in {path.name} {text.count(old)} times"] if text.count(old) != 1 else []
+        path.write_text(text.replace(old, new))
+    return odd
+
+
+def is_seen(bench: Bench, replaced: Replaced, so: Callable[[Bench], list[str]]) -> list[str]:
+    """Nothing, if a case finds something odd of a copy with a fault."""
+    room = bench.folder()
+    (room / "tools").mkdir()
+    if odd := copied(room, replaced):
+        return odd
+    found = so(dataclasses.replace(bench, tool=room / "tools/controller", room=room, tally=Tally(), patience=PATIENCE))
+    bench.tally.add(**{"planted faults": int(bool(replaced))})
+    return [] if found else ["isn't seen"]
+
+
+def cases(nodes: Nodes | None) -> list[Case]:
+    """A case for each fault."""
+    faults = [(fault, True) for fault in IN_FILES] + [(fault, nodes is not None) for fault in in_etcd(nodes)]
+    sound: Case = ("a copy without a fault", lambda bench: ["a case finds something"] if not is_seen(bench, [], lines.grouped) else [])
+    return [sound] + [(f"planted: {fault[0]}", (lambda bench, fault=fault: is_seen(bench, *fault[1:])) if is_there else skipped) for fault, is_there in faults]
