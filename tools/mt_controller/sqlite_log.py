@@ -7,11 +7,12 @@ import sqlite3
 from collections.abc import Iterator, Sequence
 
 from mt_controller.entries import WrongLog
-from mt_controller.logs import LogFailed, changed_at, in_order
+from mt_controller.logs import LogFailed, LogUnreachable, changed_at, in_order
 
 APPLICATION = 0x6D746C67  # "mtlg", by which SQLite's tools know the file
 AT_ONCE = 200  # entries
-PATIENCE = 60  # seconds for which another controller may hold the file
+PATIENCE = 5  # seconds for which another controller may hold the file, before it is told; one that was stopped may for long
+LOCKED = "database is locked"  # what SQLite then says; nothing was written
 TABLE = "CREATE TABLE entries (place INTEGER PRIMARY KEY, entry BLOB NOT NULL)"
 
 
@@ -19,7 +20,7 @@ class SqliteLog:
     """The entries of a file. What `append` has put there stays, even if the machine loses its power."""
 
     def __init__(self, path: str) -> None:
-        """Opens the file, or makes it. Raises `WrongLog` for a file that is no log, `LogFailed` for one that can't be opened."""
+        """Opens the file, or makes it. Raises `WrongLog` for a file that is no log, `LogFailed` or `LogUnreachable` for one that can't be opened."""
         self.name, self._path = f"sqlite:{path}", path
         with self._told():
             # several threads may hand it on, but only one uses it at a time
@@ -82,4 +83,5 @@ class SqliteLog:
         try:
             yield
         except sqlite3.Error as why:
-            raise LogFailed(f"{self._path}: {why}") from why
+            kind = LogUnreachable if str(why) == LOCKED else LogFailed
+            raise kind(f"{self._path}: {why}") from why
