@@ -2,6 +2,7 @@
 from __future__ import annotations
 
 import concurrent.futures
+import os
 import re
 import signal
 import threading
@@ -9,7 +10,7 @@ import time
 from collections.abc import Sequence
 
 from controller_logs import EtcdAt, Nodes, SqliteAt, drawn_fates, lossy
-from controller_runs import SETUP, Bench, Case, LogAt, Marks, Running, differences, skipped, until, went_well
+from controller_runs import SETUP, Bench, Case, LogAt, Marks, Running, children, differences, skipped, stopped_well, until, went_well
 
 MOVE = [*SETUP, "create mv commerce customer corder", "advance mv forward 1 100"]
 SWITCHED = [f"step mv {done}" for done in range(12)]
@@ -49,7 +50,8 @@ def one_is_taken(answers: Sequence[str | None], line: str) -> list[str]:
 def write_and_feed(running: Running, marks: Marks, client: int, number: int) -> None:
     """Lines of a client in one go, and turns of the streams behind them."""
     base = 10_000 * (client + 1) + 100 * number
-    running.send(*marks.all(*(f"insert corder {base + at} c{client}" for at in range(BURST)), f"append corder {base} x", "append corder 1 y", f"get corder {base}"))
+    written = [f"insert corder {base + at} c{client}" for at in range(BURST)]
+    running.send(*marks.all(*written, f"append corder {base} x", "append corder 1 y", f"get corder {base}"))
     running.wait(len(running.feed.sent))
     feed(running, marks)
 
@@ -186,16 +188,36 @@ def through_losses(bench: Bench, nodes: Nodes, appends: int = THROUGH_LOSSES) ->
 
 
 def held_up(bench: Bench) -> list[str]:
-    """While somebody else holds the file nothing is answered, and nothing that was asked meanwhile stands in the log once the controller is killed."""
+    """While somebody else holds the file nothing is answered, and it is told; it goes on from there. What was asked before it is killed isn't written."""
+    log, marks = SqliteAt(bench.folder() / "log"), Marks()
+    running, killed = Running(bench, log.words()), Running(bench, log.words())
+    found = [] if all(running.ask(marks.marked(it)) for it in SETUP) and killed.ask(marks.marked("get corder 1")) else ["nothing is answered"]
+    with log.held():
+        for it in (running, killed):
+            it.send(*marks.all("insert corder 2 b", "get corder 2"))
+        found += ["a line is answered that can't stand in the log yet"] if killed.wait(2, QUIET) else []
+        found += [] if killed.kill() else ["a process of a controller that was killed is left"]
+        found += [] if until(lambda: "nothing is answered until it does" in running.said(), bench.patience) else ["it doesn't tell that nothing is answered"]
+    found += [] if running.wait(len(SETUP) + 2) else ["it isn't answered once the file is free"]
+    bench.tally.add(faults=2)
+    ended = running.end()
+    found += [] if ended.status == 0 and "the log answers again" in ended.said else [f"it ended with {ended}"]
+    return found + differences(bench, log, [running.feed, killed.feed])
+
+
+def core_killed(bench: Bench) -> list[str]:
+    """The process of the core is killed: the controller stops, and says why; another one goes on."""
     log, marks = SqliteAt(bench.folder() / "log"), Marks()
     running = Running(bench, log.words())
     found = [] if all(running.ask(marks.marked(it)) for it in SETUP) else ["nothing is answered"]
-    with log.held():
-        running.send(*marks.all("insert corder 2 b", "get corder 2"))
-        found += ["a line is answered that can't stand in the log yet"] if running.wait(len(SETUP) + 1, QUIET) else []
-        found += [] if running.kill() else ["a process of a controller that was killed is left"]
+    for core in children(running.pid):
+        os.kill(core, signal.SIGKILL)
+    found += ["a line is answered without a core"] if running.ask(marks.marked("append corder 1 b")) is not None else []
+    found += stopped_well(running.end(), "core")
+    other = Running(bench, log.words())
+    found += [] if other.ask(marks.marked("get corder 1")) == "row ab" else ["the line isn't in the log"]
     bench.tally.add(faults=1)
-    return found + differences(bench, log, [running.feed])
+    return [*found, *went_well(other.end()), *differences(bench, log, [running.feed, other.feed])]
 
 
 def cases(nodes: Nodes | None, seconds: float) -> list[Case]:
@@ -204,6 +226,7 @@ def cases(nodes: Nodes | None, seconds: float) -> list[Case]:
         ("three controllers, SQLite", lambda bench: three(bench, SqliteAt(bench.folder() / "log"))),
         ("a controller that is stopped, SQLite", lambda bench: stopped(bench, SqliteAt(bench.folder() / "log"), seconds)),
         ("a file that is held", held_up),
+        ("a core that is killed", core_killed),
     ]
     of_etcd: list[Case] = [
         ("nodes that go and come", nodes_go),

@@ -10,7 +10,7 @@ from collections.abc import Callable, Sequence
 from dataclasses import dataclass
 
 from controller_logs import SqliteAt
-from controller_runs import SETUP, WATCHED, Bench, Case, Marks, Running, differences, lines_in, stopped_well, until, went_well
+from controller_runs import SETUP, WATCHED, Bench, Case, Marks, Running, children, differences, lines_in, stopped_well, until, went_well
 
 SMALL, ROOMY = 300_000, 20_000_000  # bytes
 WIDE = " " * 3000  # behind a line, so that a disk is full soon
@@ -140,8 +140,8 @@ def opens(bench: Bench, files: Files, *places: str, is_whole: bool = False) -> l
         entries = log.entries()
     except sqlite3.Error as why:
         return [f"its file can't be read: {why}"]
-    before = entries[:-1]
-    found = [] if before in ([list(files.entries)] if is_whole else [list(files.entries[:at]) for at in range(1, len(files.entries) + 1)]) else ["other entries"]
+    allowed = [len(files.entries)] if is_whole else range(1, len(files.entries) + 1)
+    found = [] if entries[:-1] in [list(files.entries[:at]) for at in allowed] else ["other entries stand in it"]
     answers = bench.answers(lines_in(entries))
     return found + ([] if printed.decode() == f"{answers[-1]}\n" and lines_in(entries)[-1] == ASKED else [f"it printed {printed!r}"])
 
@@ -174,11 +174,6 @@ def without_memory(bench: Bench, lines: Sequence[str], is_asked: bool) -> list[s
     found += [] if other.ask(marks.marked(ASKED)) else ["the other doesn't go on"]
     bench.tally.add(faults=1)
     return [*found, *went_well(other.end()), *differences(bench, log, [other.feed, little.feed])]
-
-
-def children(pid: int) -> list[int]:
-    """The processes that a process has begun."""
-    return [int(it) for it in pathlib.Path(f"/proc/{pid}/task/{pid}/children").read_text().split()]
 
 
 def size_of(pid: int) -> int:

@@ -10,6 +10,7 @@ from controller_runs import SETUP, WATCHED, Bench, Case, Marks, Running, differe
 
 BEGIN = "".join(f"{it}\n" for it in SETUP).encode()
 GET = b"get corder 1"
+OTHER_ENDS = (b"\x0b", b"\x0c", b"\x1c", b"\x1d", b"\xc2\x85", b"\xe2\x80\xa8", b"\x85", b"\r ", b"\x1a")  # of lines, elsewhere than here
 LONG = 4096  # bytes that a line may have
 TOO_LONG = 300_000  # for an entry
 MANY = 100_000
@@ -23,9 +24,10 @@ def inputs() -> Iterator[tuple[str, bytes]]:
     yield "a last line without its end", BEGIN + GET
     yield "a last line that ends with a carriage return", BEGIN + GET + b"\r"
     yield "a last line that is a comment", BEGIN + GET + b"\n# a"
-    yield "bytes that are no UTF-8", BEGIN + b"insert corder 2 \xff\xfe\n\x80\n\xed\xa0\x80\n\xc3\xa9 \xc3\nget corder 2\n\x00\nget corder 1\x00\nget\x00 corder 1\n"
-    yield "other ends of lines", BEGIN + b"\n".join(GET + it for it in (b"\x0b", b"\x0c", b"\x1c", b"\x1d", b"\xc2\x85", b"\xe2\x80\xa8", b"\x85", b"\r ", b"\x1a")) + b"\x1c\n\x85\n"
-    yield "lines of 4,096 bytes and more", BEGIN + b"".join(GET + b" " * (LONG - len(GET) + more) + b"\n" for more in (-1, 0, 1)) + b"x" * LONG + b"\r\n" + b"y" * LONG + b"\r"
+    yield "bytes that are no UTF-8", BEGIN + b"insert corder 2 \xff\xfe\n\x80\n\xed\xa0\x80\n\xc3\xa9 \xc3\nget corder 2\n\x00\nget\x00 corder 1\n"
+    yield "other ends of lines", BEGIN + b"\n".join(GET + it for it in OTHER_ENDS) + b"\n\x1c\n\x85\n"
+    padded = b"".join(GET + b" " * (LONG - len(GET) + more) + b"\n" for more in (-1, 0, 1))
+    yield "lines of 4,096 bytes and more", BEGIN + padded + b"x" * LONG + b"\r\n" + b"y" * LONG + b"\r"
     yield "silent lines", b"\n \t\n\r\n \r\n#\n# \xff\r\n#" + b"y" * TOO_LONG + b"\n" + b" " * TOO_LONG + b"\n" + BEGIN + b" # a\n\t#\n\x0b\n" + GET + b"\n\n#"
     yield "long lines", BEGIN + b"z" * 100_000 + b"\n" + b"\xff" * 40_000 + b"\n" + GET
 
@@ -102,7 +104,7 @@ def prompt(bench: Bench) -> list[str]:
     """The prompt over a pipe: what is typed stays, is printed and saved as a script, and isn't taken back; a second one goes on."""
     folder = bench.folder()
     log, saved = SqliteAt(folder / "log"), folder / "saved"
-    typed = [*SETUP, "# not written", "get corder 1 # a row", "get corder 9", "back", "create mv commerce customer corder", "advance mv", "lag mv", "where corder", "lines"]
+    typed = [*SETUP, "# not written", "get corder 1 # a row", "get corder 9", "back", "create mv commerce customer corder", "advance mv", "lag mv", "lines"]
     first = _typed(bench, [*log.words(), *WATCHED], [*typed, f"save {saved}", "quit", "get corder 1"])
     lines = [*SETUP, "get corder 1", "get corder 9", "create mv commerce customer corder", "advance mv forward 1 100"]
     found = [] if lines_in(log.entries()) == lines else [f"the log has {lines_in(log.entries())}"]

@@ -111,7 +111,8 @@ class Nodes:
         """Starts a node, on its data if it has some."""
         cluster = ",".join(f"n{at}=http://127.0.0.1:{port}" for at, port in enumerate(self._peers))
         client, peer = f"http://127.0.0.1:{self.ports[node]}", f"http://127.0.0.1:{self._peers[node]}"
-        words = ["etcd", "--name", f"n{node}", "--data-dir", self._data / str(node), "--initial-cluster", cluster, "--initial-cluster-token", str(self._peers[0])]
+        words = ["etcd", "--name", f"n{node}", "--data-dir", self._data / str(node)]
+        words += ["--initial-cluster", cluster, "--initial-cluster-token", str(self._peers[0])]
         words += ["--listen-client-urls", client, "--advertise-client-urls", client, "--listen-peer-urls", peer, "--initial-advertise-peer-urls", peer]
         with open(self.room / f"etcd{node}.log", "ab") as said:
             self.processes[node] = subprocess.Popen(words, stdin=subprocess.DEVNULL, stdout=said, stderr=said)
@@ -233,8 +234,8 @@ def answering(status: int, answer: bytes) -> Served:
 
 
 def lossy(node: int, fates: Callable[[], str]) -> Served:
-    """A server before a node, by which transactions get lost: `fates` says of each whether it is answered, `lost` on its way, its `answer lost`, or passed
-    on `late`, when who sent it waits no more.
+    """A server before a node, by which transactions get lost. `fates` says of each whether it is `lost` on its way, its `answer lost`, or it is passed on
+    `late`, when who sent it waits no more; if it says nothing, the transaction is answered.
     """
 
     class Lossy(Quiet):

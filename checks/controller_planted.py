@@ -16,29 +16,44 @@ from controller_runs import Bench, Case, Tally, skipped
 TOP = pathlib.Path(__file__).resolve().parent.parent
 PATIENCE = 6.0  # seconds until what doesn't come isn't waited for any more
 Replaced = Sequence[tuple[str, str, str]]  # a file, the text that goes, the text that comes
+Fault = tuple[str, Replaced, Callable[[Bench], list[str]]]
 
-APPLIED_FIRST = [
-    ("controller", "iter(self._append([line for it in asked for line in it.lines]))", "iter(self.core.ask([line for it in asked for line in it.lines]))"),
-    ("controller", "[next(answers) for _ in it.lines])\n", "[next(answers) for _ in it.lines])\n        self._append([line for it in asked for line in it.lines])\n"),
+APPENDED = "self._append([line for it in asked for line in it.lines])"
+ANSWERED = "it.answers.set_result([next(answers) for _ in it.lines])\n"
+LOOKED_FOR = "self._log.append(self._place, text, self._before) or self._log.read(self._place)[:1] == [text]"
+FREE = '"compare": [{"key": key, "result": "EQUAL", "target": "CREATE", "create_revision": "0"}, *follows],'
+BEHIND = '"result": "EQUAL", "target": "VALUE", "value": base64.b64encode(before).decode()'
+
+ANSWERED_FIRST = [
+    ("controller", APPENDED, "self.core.ask([line for it in asked for line in it.lines])"),
+    ("controller", ANSWERED, f"{ANSWERED}        {APPENDED}\n"),
 ]
 REPLACED = [
     ("sqlite_log", "            if place in stand:\n                return False\n", ""),
     ("sqlite_log", '"INSERT INTO entries', '"INSERT OR REPLACE INTO entries'),
 ]
-IN_FILES: list[tuple[str, Replaced, Callable[[Bench], list[str]]]] = [
-    ("it answers before it appends", APPLIED_FIRST, crowds.held_up),
-    ("a digest that isn't compared", [("controller", "if entry.answers != self._digest.hexdigest():", "if False:")], lambda it: spoilt(it, "other answers before it")),
-    ("an entry before that isn't compared", [("controller", "if entry.before != sum_of(self._before):", "if False:")], lambda it: spoilt(it, "an entry that was changed")),
+NO_DIGEST = [("controller", "if entry.answers != self._digest.hexdigest():", "if False:")]
+NOT_BEFORE = [("controller", "if entry.before != sum_of(self._before):", "if False:")]
+ANY_BEFORE = [("sqlite_log", "if place and stand.get(place - 1) != before:", "if False:")]
+OTHER_ORDER = [("controller", f"        for it in asked:\n            {ANSWERED}", f"        for it in reversed(asked):\n            {ANSWERED}")]
+NOT_FLUSHED = [("batch", "        sys.stdout.flush()\n", "")]
+WITHOUT_MEMORY = [("core", "if ctypes.get_errno() == errno.ENOMEM:", "if False:")]
+HELD = [("batch", 'open(sys.stdin.fileno(), "rb", closefd=False)', "sys.stdin.buffer")]
+NO_LOOK = [("controller", LOOKED_FOR, LOOKED_FOR.partition(" or ")[0])]
+NOT_FREE = [("etcd_log", FREE, '"compare": follows,')]
+ANY_BEHIND = [("etcd_log", BEHIND, '"result": "GREATER", "target": "VALUE", "value": ""')]
+
+IN_FILES: list[Fault] = [
+    ("it answers before it appends", ANSWERED_FIRST, crowds.held_up),
+    ("a digest that isn't compared", NO_DIGEST, lambda it: spoilt(it, "other answers before it")),
+    ("an entry before that isn't compared", NOT_BEFORE, lambda it: spoilt(it, "an entry that was changed")),
     ("a place that a second one takes", REPLACED, lambda it: crowds.three(it, SqliteAt(it.folder() / "log"))),
-    ("an entry put behind another", [("sqlite_log", "if place and stand.get(place - 1) != before:", "if False:")], lambda it: wrong.set_back(it, wrong.in_files(it))),
-    ("answers in another order", [("controller", "        for it in asked:\n            it.answers.set_result(", "        for it in reversed(asked):\n            it.answers.set_result(")], lines.grouped),
-    ("an answer that isn't flushed", [("batch", "        sys.stdout.flush()\n", "")], lines.each_at_once),
-    ("a line without memory that is answered", [("core", "if ctypes.get_errno() == errno.ENOMEM:", "if False:")], files.copied_without),
-    ("an open input that holds it", [("batch", 'open(sys.stdin.fileno(), "rb", closefd=False)', "sys.stdin.buffer")], files.limited),
+    ("an entry put behind another", ANY_BEFORE, lambda it: wrong.set_back(it, wrong.in_files(it))),
+    ("answers in another order", OTHER_ORDER, lines.grouped),
+    ("an answer that isn't flushed", NOT_FLUSHED, lines.each_at_once),
+    ("a line without memory that is answered", WITHOUT_MEMORY, files.copied_without),
+    ("an open input that holds it", HELD, files.limited),
 ]
-LOOKED_FOR = "self._log.append(self._place, text, self._before) or self._log.read(self._place)[:1] == [text]"
-FREE = '"compare": [{"key": key, "result": "EQUAL", "target": "CREATE", "create_revision": "0"}, *follows],'
-BEHIND = '"result": "EQUAL", "target": "VALUE", "value": base64.b64encode(before).decode()'
 
 
 def spoilt(bench: Bench, name: str) -> list[str]:
@@ -46,12 +61,12 @@ def spoilt(bench: Bench, name: str) -> list[str]:
     return wrong.one_spoilt(bench, wrong.in_files(bench), name)
 
 
-def in_etcd(nodes: Nodes | None) -> list[tuple[str, Replaced, Callable[[Bench], list[str]]]]:
+def in_etcd(nodes: Nodes | None) -> list[Fault]:
     """The faults that are seen with etcd."""
     return [
-        ("a second try without a look", [("controller", LOOKED_FOR, LOOKED_FOR.partition(" or ")[0])], lambda it: crowds.through_losses(it, nodes, 40)),
-        ("a place that needn't be free", [("etcd_log", FREE, '"compare": follows,')], lambda it: crowds.three(it, EtcdAt(nodes, f"/mt/{it.folder().name}"))),
-        ("an entry of etcd put behind another", [("etcd_log", BEHIND, BEHIND.replace("EQUAL", "GREATER").replace("(before)", '(b"")'))], lambda it: wrong.set_back(it, wrong.in_etcd(it, nodes))),
+        ("a second try without a look", NO_LOOK, lambda it: crowds.through_losses(it, nodes, 40)),
+        ("a place that needn't be free", NOT_FREE, lambda it: crowds.three(it, EtcdAt(nodes, f"/mt/{it.folder().name}"))),
+        ("an entry of etcd put behind another", ANY_BEHIND, lambda it: wrong.set_back(it, wrong.in_etcd(it, nodes))),
     ]
 
 

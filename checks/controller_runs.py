@@ -204,6 +204,11 @@ class Marks:
         return [self.marked(it) for it in lines]
 
 
+def children(pid: int) -> list[int]:
+    """The processes that a process has begun."""
+    return [int(it) for it in pathlib.Path(f"/proc/{pid}/task/{pid}/children").read_text().split()]
+
+
 def until(holds: Callable[[], bool], seconds: float = PATIENCE) -> bool:
     """Whether something comes to hold."""
     last = time.monotonic() + seconds
