@@ -187,6 +187,20 @@ def through_losses(bench: Bench, nodes: Nodes, appends: int = THROUGH_LOSSES) ->
         server.close()
 
 
+def large(bench: Bench, log: LogAt) -> list[str]:
+    """Entries as large as they get, one behind the other, from two controllers, and a third one that plays them."""
+    marks, wide = Marks(), " " * 3900
+    one, other = Running(bench, log.words()), Running(bench, log.words(1))
+    for it in (one, other):
+        it.send(*marks.all(*[f"get corder 1{wide}"] * 120))
+    found = [odd for it in (one, other) for odd in went_well(it.end())]
+    last = Running(bench, log.words(2))
+    last.send(*marks.all("get corder 1"))
+    sizes = [len(it) for it in log.entries()]
+    found += [] if max(sizes) > 200_000 else [f"the entries have {sizes} bytes"]
+    return [*found, *went_well(last.end()), *differences(bench, log, [one.feed, other.feed, last.feed])]
+
+
 def held_up(bench: Bench) -> list[str]:
     """While somebody else holds the file nothing is answered, and it is told; it goes on from there. What was asked before it is killed isn't written."""
     log, marks = SqliteAt(bench.folder() / "log"), Marks()
@@ -225,12 +239,14 @@ def cases(nodes: Nodes | None, seconds: float) -> list[Case]:
     found: list[Case] = [
         ("three controllers, SQLite", lambda bench: three(bench, SqliteAt(bench.folder() / "log"))),
         ("a controller that is stopped, SQLite", lambda bench: stopped(bench, SqliteAt(bench.folder() / "log"), seconds)),
+        ("large entries, SQLite", lambda bench: large(bench, SqliteAt(bench.folder() / "log"))),
         ("a file that is held", held_up),
         ("a core that is killed", core_killed),
     ]
     of_etcd: list[Case] = [
         ("nodes that go and come", nodes_go),
         ("appends through losses", lambda bench: through_losses(bench, nodes)),
+        ("large entries, etcd", lambda bench: large(bench, EtcdAt(nodes, f"/mt/{bench.folder().name}"))),
         ("three controllers, etcd", lambda bench: three(bench, EtcdAt(nodes, f"/mt/{bench.folder().name}"))),
         ("a controller that is stopped, etcd", lambda bench: stopped(bench, EtcdAt(nodes, f"/mt/{bench.folder().name}"), seconds)),
     ]

@@ -17,7 +17,7 @@ WIDE = " " * 3000  # behind a line, so that a disk is full soon
 FRAME, FRAMES_FROM, PAGE = 4096 + 24, 32, 4096
 ENTRIES = 14
 ASKED = "get corder 1"
-ROWS = 5_000
+ROWS = 8_000
 COPIED = [f"advance mv forward {ROWS + 1} 65535"]
 WRITTEN = [f"insert corder {at} v" for at in range(ROWS + 2, 4 * ROWS)]
 
@@ -109,7 +109,7 @@ def turned(bench: Bench) -> list[str]:
     drawn, found = random.Random(bench.seed), []
     places = {place: closed.file.index(text) + drawn.randrange(len(text)) for place, text in enumerate(closed.entries[:-1])}
     for place, at in places.items():
-        odd = opens(bench, turned_at(closed, at), f"place {place} ", f"place {place + 1} ")
+        odd = opens(bench, turned_at(closed, at), f"place {place} ", f"place {place + 1} ", *["watches"] * (place == 0))
         found += [f"byte {at}, of the entry at place {place}: {it}" for it in odd]
     last = range(closed.file.index(closed.entries[-1]), closed.file.index(closed.entries[-1]) + len(closed.entries[-1]))
     for at in drawn.sample([it for it in range(len(closed.file)) if it not in last], 12) + drawn.sample(range(100), 8):
