@@ -3,7 +3,7 @@ from __future__ import annotations
 
 import random
 import time
-from collections.abc import Iterator, Sequence
+from collections.abc import Callable, Iterator, Sequence
 
 from controller_runs import SETUP, Bench, Feed, LogAt, Marks, Running, differences, went_well
 
@@ -31,6 +31,23 @@ def killed_often(bench: Bench, log: LogAt, part: int, kills: int) -> list[str]:
     found += went_well(last.end())
     tell_moments(bench, log, feeds[2:])
     return found + differences(bench, log, [*feeds, last.feed])
+
+
+def killed_as_it_begins(bench: Bench, made: Callable[[], LogAt], part: int, kills: int) -> list[str]:
+    """Logs that aren't there yet, whose first controller is killed as it makes them; another one then goes on, or makes them."""
+    drawn, found = random.Random(f"{bench.seed} {part}"), []
+    opening, _, _ = paced(bench, made(), Marks())
+    for _ in range(kills):
+        log, marks = made(), Marks()
+        running = Running(bench, log.words())
+        running.send(marks.marked(SETUP[0]))
+        time.sleep(drawn.uniform(0.5, 1.0) * opening)
+        found += [] if running.kill(is_whole=drawn.random() < 0.5) else ["a process of a controller that was killed is left"]
+        bench.tally.add(**{"kills as a log is made": 1, "of them before anything stood there": int(not log.state())})
+        last = Running(bench, log.words())
+        last.send(*marks.all(*SETUP, "get corder 1"))
+        found += [*went_well(last.end()), *differences(bench, log, [running.feed, last.feed])]
+    return found
 
 
 def paced(bench: Bench, log: LogAt, marks: Marks) -> tuple[float, float, Feed]:
