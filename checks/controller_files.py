@@ -166,10 +166,12 @@ def without_memory(bench: Bench, lines: Sequence[str], is_asked: bool) -> list[s
     other, little = Running(bench, log.words()), Running(bench, log.words())
     other.send(*SETUP, *(f"insert corder {at} v" for at in range(2, ROWS + 2)), "create mv commerce customer corder")
     found = [] if other.wait(len(other.feed.sent)) and little.ask(marks.marked(ASKED)) else ["not all is answered"]
-    for core in children(little.pid):
-        resource.prlimit(core, resource.RLIMIT_AS, (size_of(core),) * 2)
+    (core,) = children(little.pid)
+    size = size_of(core)
+    resource.prlimit(core, resource.RLIMIT_AS, (size, size))
     (little if is_asked else other).send(*lines)
-    found += [] if until(little.has_ended, bench.patience) else ["one without memory doesn't end by itself"]
+    if not until(little.has_ended, bench.patience):
+        found.append(f"one without memory doesn't end by itself: its core had {size} bytes, and now {[size_of(it) for it in children(little.pid)]}")
     found += stopped_well(little.end(), "memory")
     found += [] if other.ask(marks.marked(ASKED)) else ["the other doesn't go on"]
     bench.tally.add(faults=1)

@@ -51,8 +51,9 @@ class Core:
         return self._asked(False, lines)
 
     def close(self) -> None:
-        """Ends the process."""
+        """Ends the process, which has nothing to lose."""
         self._connection.close()
+        self._process.kill()
         self._process.join()
 
     def _asked(self, stays: bool, lines: Sequence[str]) -> Answered:
