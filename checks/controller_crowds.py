@@ -75,15 +75,23 @@ def stopped(bench: Bench, log: LogAt, seconds: float) -> list[str]:
         one.send(*marks.all(*(f"insert corder {moment}{at} one" for at in range(BURST))))
         time.sleep(0.01 * moment)
         one.signal(signal.SIGSTOP)
-        last = time.monotonic() + seconds / 3
-        while time.monotonic() < last and other.ask(marks.marked("append corder 1 z")):
-            time.sleep(0.05)
+        found += works(other, marks, seconds / 3)
         one.signal(signal.SIGCONT)
         found += [] if one.wait(len(one.feed.sent)) else ["it isn't answered behind a stop"]
     bench.tally.add(faults=3)
     shown = {it.ask(marks.marked("get corder 1")) for it in (one, other)}
     found += [f"they have {shown}"] if len(shown) != 1 else []
     return [*found, *went_well(one.end()), *went_well(other.end()), *differences(bench, log, [one.feed, other.feed])]
+
+
+def works(running: Running, marks: Marks, seconds: float) -> list[str]:
+    """A client works for a while, and is answered."""
+    last = time.monotonic() + seconds
+    while time.monotonic() < last:
+        if running.ask(marks.marked("append corder 1 z")) is None:
+            return ["the other controller doesn't go on"]
+        time.sleep(0.05)
+    return []
 
 
 class Steady:
@@ -197,7 +205,7 @@ def large(bench: Bench, log: LogAt) -> list[str]:
     last = Running(bench, log.words(2))
     last.send(*marks.all("get corder 1"))
     sizes = [len(it) for it in log.entries()]
-    found += [] if max(sizes) > 200_000 else [f"the entries have {sizes} bytes"]
+    found += [] if max(sizes) > 50_000 else [f"the entries have {sizes} bytes"]
     return [*found, *went_well(last.end()), *differences(bench, log, [one.feed, other.feed, last.feed])]
 
 

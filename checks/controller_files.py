@@ -106,16 +106,13 @@ def cut(bench: Bench) -> list[str]:
 def turned(bench: Bench) -> list[str]:
     """Files with a byte turned: one of an entry is told with its place; by one elsewhere the log is refused, or is as it was."""
     _, closed = left(bench)
-    drawn, found = random.Random(bench.seed), []
+    drawn = random.Random(bench.seed)
     places = {place: closed.file.index(text) + drawn.randrange(len(text)) for place, text in enumerate(closed.entries[:-1])}
-    for place, at in places.items():
-        odd = opens(bench, turned_at(closed, at), f"place {place} ", f"place {place + 1} ", *["watches"] * (place == 0))
-        found += [f"byte {at}, of the entry at place {place}: {it}" for it in odd]
+    told = {at: (f"place {place} ", f"place {place + 1} ", *["watches"] * (place == 0)) for place, at in places.items()}
     last = range(closed.file.index(closed.entries[-1]), closed.file.index(closed.entries[-1]) + len(closed.entries[-1]))
-    for at in drawn.sample([it for it in range(len(closed.file)) if it not in last], 12) + drawn.sample(range(100), 8):
-        found += [f"byte {at}: {it}" for it in opens(bench, turned_at(closed, at), is_whole=True)]
-    bench.tally.add(faults=len(places) + 20)
-    return found
+    ats = [*told, *drawn.sample([it for it in range(len(closed.file)) if it not in last], 12), *drawn.sample(range(100), 8)]
+    bench.tally.add(faults=len(ats))
+    return [f"byte {at}: {odd}" for at in ats for odd in opens(bench, turned_at(closed, at), *told.get(at, ()), is_whole=True)]
 
 
 def turned_at(files: Files, at: int) -> Files:

@@ -43,7 +43,7 @@ def killed_as_it_begins(bench: Bench, made: Callable[[], LogAt], part: int, kill
         running.send(marks.marked(SETUP[0]))
         time.sleep(drawn.uniform(0.6, 1.15) * opening)
         found += [] if running.kill(is_whole=drawn.random() < 0.5) else ["a process of a controller that was killed is left"]
-        bench.tally.add(**{"kills as a log is made": 1, "of them before anything stood there": int(not log.state())})
+        bench.tally.add(**{"kills as a log is made": 1, "kills as a log is made, before anything stands there": int(not log.state())})
         last = Running(bench, log.words())
         last.send(*marks.all(*SETUP, "get corder 1"))
         found += [*went_well(last.end()), *differences(bench, log, [running.feed, last.feed])]

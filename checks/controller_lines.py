@@ -93,9 +93,9 @@ def grouped(bench: Bench) -> list[str]:
     one, other = Running(bench, log.words()), Running(bench, log.words())
     one.send(*marks.all(*SETUP))
     found = [] if one.wait(len(SETUP)) else ["nothing is answered"]
-    for _ in range(4):
-        for it in (one, other):
-            it.send(*marks.all("append corder 1 x", *(line for key in range(2, 60) for line in (f"insert corder {key} v{key}", f"get corder {key}"))))
+    lines = ["append corder 1 x", *(line for key in range(2, 60) for line in (f"insert corder {key} v{key}", f"get corder {key}"))]
+    for it in (one, other) * 4:
+        it.send(*marks.all(*lines))
     found += [odd for it in (one, other) for odd in went_well(it.end())]
     return found + differences(bench, log, [one.feed, other.feed])
 

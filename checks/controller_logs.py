@@ -100,8 +100,7 @@ class Nodes:
         for attempt in range(TRIES):
             self.ports, self._peers = free_ports(NODES), free_ports(NODES)
             self._data = room / f"data{attempt}"
-            for node in range(NODES):
-                self.start(node)
+            list(map(self.start, range(NODES)))
             if until(self.answers, 30):
                 return
             self.end()

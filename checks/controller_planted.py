@@ -72,23 +72,22 @@ def in_etcd(nodes: Nodes | None) -> list[Fault]:
 
 def copied(to: pathlib.Path, replaced: Replaced) -> list[str]:
     """Makes a copy of the controller with other texts; what doesn't stand there once."""
-    for name in ("controller", "mt_controller", "mt_prompt", "mt_runs"):
-        (shutil.copytree if (TOP / "tools" / name).is_dir() else shutil.copy)(TOP / "tools" / name, to / "tools" / name)
+    shutil.copytree(TOP / "tools", to / "tools")
     for name in ("embed", "out", "docs"):
         (to / name).symlink_to(TOP / name)
-    odd = []
-    for name, old, new in replaced:
-        path = to / f"tools/mt_controller/{name}.py"
-        text = path.read_text()
-        odd += [f"{old} stands in {path.name} {text.count(old)} times"] if text.count(old) != 1 else []
-        path.write_text(text.replace(old, new))
-    return odd
+    return [odd for name, old, new in replaced for odd in turned(to / f"tools/mt_controller/{name}.py", old, new)]
+
+
+def turned(path: pathlib.Path, old: str, new: str) -> list[str]:
+    """Puts another text in the place of one; says so if that doesn't stand there once."""
+    text = path.read_text()
+    path.write_text(text.replace(old, new))
+    return [f"{old} stands in {path.name} {text.count(old)} times"] if text.count(old) != 1 else []
 
 
 def is_seen(bench: Bench, replaced: Replaced, so: Callable[[Bench], list[str]]) -> list[str]:
     """Nothing, if a case finds something odd of a copy with a fault."""
     room = bench.folder()
-    (room / "tools").mkdir()
     if odd := copied(room, replaced):
         return odd
     found = so(dataclasses.replace(bench, tool=room / "tools/controller", room=room, tally=Tally(), patience=PATIENCE))

@@ -41,10 +41,8 @@ def spoilt(good: Sequence[bytes]) -> Iterator[tuple[str, dict[int, bytes | None]
     yield "other answers before it", {3: entry(3, good[2], ["ok"], LINES[2])}, ["place 3", "answers"]
     yield "another entry before it", {3: entry(3, good[1], ["ok"], LINES[2])}, ["place 3", "follow"]
     yield "an entry that was changed", {2: good[2].replace(b"corder 1", b"corder  1")}, ["place 3", "follow"]
-    for text in bad_texts(good[2]):
-        yield f"at place 2 {text[:40]!r}", {2: text}, ["place 2 "]
-    for text in bad_heads():
-        yield f"at place 0 {text[:40]!r}", {0: text}, []
+    yield from ((f"at place 2 {text[:200]!r}", {2: text}, ["place 2 "]) for text in bad_texts(good[2]))
+    yield from ((f"at place 0 {text!r}", {0: text}, []) for text in bad_heads())
 
 
 def bad_texts(good: bytes) -> Iterator[bytes]:
@@ -100,18 +98,18 @@ def behind_its_back(bench: Bench, made: Made) -> list[str]:
 def set_back(bench: Bench, made: Made) -> list[str]:
     """Entries are taken away, and as many others put there by somebody else."""
     good = right(bench)
-    return gone(bench, made(good), [entry(3, good[2], bench.answers([*LINES[0], *LINES[1]]), ["get corder 1"])])
+    third = entry(3, good[2], bench.answers([*LINES[0], *LINES[1]]), ["get corder 1"])
+    return gone(bench, made(good), [third, entry(4, third, bench.answers([*LINES[0], *LINES[1], "get corder 1"]), ["get corder 1"])])
 
 
 def gone(bench: Bench, log: LogAt, instead: Sequence[bytes]) -> list[str]:
     """The last entries are taken away behind a controller, as of an etcd that was restored to an earlier state, and maybe others put there."""
     running = Running(bench, log.words(), watched=())
     found = [] if running.ask("get corder 1") == "row ab" else ["nothing is answered"]
-    for place in (4, 3):
-        log.take(place)
+    log.take(4)
+    log.take(3)
     for place, text in enumerate(instead, 3):
         log.put(place, text)
-        log.put(place + 1, entry(place + 1, text, bench.answers([*LINES[0], *LINES[1], "get corder 1"]), ["get corder 1"]))
     before = log.entries()
     found += ["a line is answered although entries are gone"] if running.ask("get corder 1 ") is not None else []
     found += [] if log.entries() == before else ["it wrote to the log"]
@@ -133,9 +131,8 @@ def no_files(bench: Bench) -> list[str]:
         "of other columns": ["PRAGMA application_id = 1836346471", "CREATE TABLE entries (a, b)"],
     }
     for name, orders in made.items():
-        file = sqlite3.connect(room / name, isolation_level=None)
-        for order in orders:
-            file.execute(order)
+        file = sqlite3.connect(room / name)
+        file.executescript(";".join(orders))
         file.close()
     names = ["text", "folder", "none/log", *made]
     return [f"{name}: {odd}" for name in names for odd in refused(bench, SqliteAt(room / name), [str(room / name)], WATCHED)]
