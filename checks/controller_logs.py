@@ -5,6 +5,7 @@ import base64
 import contextlib
 import http.client
 import http.server
+import itertools
 import json
 import pathlib
 import random
@@ -254,13 +255,17 @@ def lossy(node: int, fates: Callable[[], str]) -> Served:
 
 
 def drawn_fates(seed: int, tally: Callable[..., None]) -> Callable[[], str]:
-    """Fates that are drawn: of eight transactions three get lost, and one of all is late."""
-    drawn, late, lock = random.Random(seed), [40], threading.Lock()
+    """Fates that are drawn: of eight transactions three get lost, and one of all is late.
+
+    Of the first ones, as the log is opened, only an answer gets lost, once: a controller that can't open its log ends.
+    """
+    drawn, count, lock = random.Random(seed), itertools.count(), threading.Lock()
+    known = {0: "answer lost", 1: "", 2: "", 40: "late"}
 
     def fate() -> str:
         with lock:
-            late[0] -= 1
-            found = "late" if late[0] == 0 else drawn.choice(["", "", "", "", "", "lost", "answer lost", "answer lost"])
+            found = drawn.choice(["", "", "", "", "", "lost", "answer lost", "answer lost"])
+            found = known.get(next(count), found)
         if found:
             tally(faults=1)
         return found
