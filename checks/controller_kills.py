@@ -5,7 +5,7 @@ import random
 import time
 from collections.abc import Callable, Iterator, Sequence
 
-from controller_runs import SETUP, Bench, Feed, LogAt, Marks, Running, differences, went_well
+from controller_runs import SETUP, Bench, Feed, LogAt, Marks, Running, differences, until, went_well
 
 LINES = 10  # that a client sends between two kills
 PLAYED = 1500  # lines that each start has to play
@@ -41,7 +41,11 @@ def killed_as_it_begins(bench: Bench, made: Callable[[], LogAt], part: int, kill
         log, marks = made(), Marks()
         running = Running(bench, log.words())
         running.send(marks.marked(SETUP[0]))
-        time.sleep(drawn.uniform(0.6, 1.15) * opening)
+        if drawn.random() < 0.3:
+            time.sleep(drawn.uniform(0.5, 1.0) * opening)
+        else:  # behind the first that stands there
+            until(log.state, pause=0.0005)
+            time.sleep(drawn.uniform(0, 0.02))
         found += [] if running.kill(is_whole=drawn.random() < 0.5) else ["a process of a controller that was killed is left"]
         bench.tally.add(**{"kills as a log is made": 1, "kills as a log is made, before anything stands there": int(not log.state())})
         last = Running(bench, log.words())

@@ -209,12 +209,12 @@ def children(pid: int) -> list[int]:
     return [int(it) for it in pathlib.Path(f"/proc/{pid}/task/{pid}/children").read_text().split()]
 
 
-def until(holds: Callable[[], bool], seconds: float = PATIENCE) -> bool:
-    """Whether something comes to hold."""
+def until(holds: Callable[[], object], seconds: float = PATIENCE, pause: float = 0.05) -> bool:
+    """Whether something comes to hold, with a pause between two looks."""
     last = time.monotonic() + seconds
     while not (so := holds()) and time.monotonic() < last:
-        time.sleep(0.05)
-    return so
+        time.sleep(pause)
+    return bool(so)
 
 
 Case = tuple[str, Callable[[Bench], Optional[list[str]]]]  # its name; and what isn't as it must be, or None if it can't be tried here
