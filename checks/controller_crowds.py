@@ -75,23 +75,27 @@ def stopped(bench: Bench, log: LogAt, seconds: float) -> list[str]:
         one.send(*marks.all(*(f"insert corder {moment}{at} one" for at in range(BURST))))
         time.sleep(0.01 * moment)
         one.signal(signal.SIGSTOP)
-        found += works(other, marks, seconds / 3)
+        if not works(other, marks, seconds / 3):  # one that was stopped in a transaction holds SQLite's file
+            bench.tally.add(**{"stops that held the file": 1})
+            found += ["the other doesn't go on meanwhile"] if isinstance(log, EtcdAt) else []
         one.signal(signal.SIGCONT)
-        found += [] if one.wait(len(one.feed.sent)) else ["it isn't answered behind a stop"]
+        found += [] if all(it.wait(len(it.feed.sent)) for it in (one, other)) else ["they aren't answered behind a stop"]
     bench.tally.add(faults=3)
     shown = {it.ask(marks.marked("get corder 1")) for it in (one, other)}
     found += [f"they have {shown}"] if len(shown) != 1 else []
-    return [*found, *went_well(one.end()), *went_well(other.end()), *differences(bench, log, [one.feed, other.feed])]
+    found += [f"it ended with {it}" for it in (one.end(), other.end()) if it.status]
+    return found + differences(bench, log, [one.feed, other.feed])
 
 
-def works(running: Running, marks: Marks, seconds: float) -> list[str]:
-    """A client works for a while, and is answered."""
+def works(running: Running, marks: Marks, seconds: float) -> bool:
+    """Whether a client that works for a while is answered all the time."""
     last = time.monotonic() + seconds
-    while time.monotonic() < last:
-        if running.ask(marks.marked("append corder 1 z")) is None:
-            return ["the other controller doesn't go on"]
+    while (left := last - time.monotonic()) > 0:
+        running.send(marks.marked("append corder 1 z"))
+        if not running.wait(len(running.feed.sent), left + 1):
+            return False
         time.sleep(0.05)
-    return []
+    return True
 
 
 class Steady:
