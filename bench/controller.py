@@ -50,9 +50,12 @@ def per_second(count: int, call: Callable[[], object]) -> float:
 
 def bare(log: Log, lines: Sequence[str]) -> None:
     """Entries of one line each."""
-    log.append(0, head_text([]))
+    before = head_text([])
+    log.append(0, before, b"")
     for place, line in enumerate(lines, 1):
-        log.append(place, Entry(place, "0" * 64, "0" * 64, "0" * 16, [line]).text())
+        text = Entry(place, "0" * 64, "0" * 64, "0" * 16, [line]).text()
+        log.append(place, text, before)
+        before = text
 
 
 def clients(controller: Controller, lines: Sequence[str], number: int, at_once: int) -> None:

@@ -89,7 +89,7 @@ def library() -> ctypes.CDLL:
     if not path:
         raise NoLibrary(f"there is no {' and no '.join(map(str, places()))}: `tools/build library` makes out/libmt.so, and MT_LIBRARY may name another file")
     try:
-        loaded = ctypes.CDLL(str(path))
+        loaded = ctypes.CDLL(str(path), use_errno=True)  # so that ctypes.get_errno() tells whether it found no memory
         for name, (result, words) in FORMS.items():
             call = getattr(loaded, name)
             call.restype, call.argtypes = result, words

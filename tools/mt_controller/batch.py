@@ -7,11 +7,10 @@ import threading
 from collections.abc import Callable, Iterator
 from concurrent.futures import Future
 
-from mt_controller.controller import Controller, Ended, NotTaken
+from mt_controller.controller import LOOKS_EVERY, Controller, Ended, NotTaken
 from mt_runs.program import is_silent
 
 MOST_THAT_WAIT = 4000  # lines that are read before the first of them is answered
-LOOKS_EVERY = 0.2  # seconds, whether the controller goes on, while no line comes
 
 Waiting = queue.Queue["Future[list[str]] | NotTaken | None"]
 
@@ -24,15 +23,7 @@ def answer_input(controller: Controller, tell: Callable[[str], None]) -> bool:
     waiting: Waiting = queue.Queue(MOST_THAT_WAIT)
     threading.Thread(target=_hand_in, args=(controller, waiting), daemon=True).start()
     were_taken = True
-    while True:
-        try:
-            it = waiting.get(timeout=LOOKS_EVERY)
-        except queue.Empty:
-            if controller.ended.done():
-                return False
-            continue
-        if it is None:
-            return were_taken
+    while (it := _next(controller, waiting)) is not None:
         if isinstance(it, NotTaken):
             tell(str(it))
             were_taken = False
@@ -42,6 +33,17 @@ def answer_input(controller: Controller, tell: Callable[[str], None]) -> bool:
         except Ended:
             return False
         sys.stdout.flush()
+    return were_taken
+
+
+def _next(controller: Controller, waiting: Waiting) -> Future[list[str]] | NotTaken | None:
+    """What is to be answered next; None at the end of the input, or of the controller, who may end while no line comes."""
+    while True:
+        try:
+            return waiting.get(timeout=LOOKS_EVERY)
+        except queue.Empty:
+            if controller.ended.done():
+                return None
 
 
 def _hand_in(controller: Controller, waiting: Waiting) -> None:
@@ -60,6 +62,7 @@ def _hand_in(controller: Controller, waiting: Waiting) -> None:
 
 def _lines() -> Iterator[str]:
     """The lines of standard input, as a script has them. Of the last one a carriage return belongs to its end only before a line feed."""
-    for line in sys.stdin.buffer:
+    # by a buffer of its own: the interpreter closes that of sys.stdin as it ends, and can't while this thread waits in it
+    for line in open(sys.stdin.fileno(), "rb", closefd=False):
         whole = line[:-1] if line.endswith(b"\n") else line + b"\r" * line.endswith(b"\r")
         yield whole.decode("utf-8", "surrogateescape")

@@ -109,12 +109,12 @@ class Controller:
     def _open(self, keyspaces: Sequence[str]) -> tuple[str, ...]:
         """Reads the first entry, or writes it; the keyspaces that it has."""
         head = head_text(keyspaces)
-        if not self._log.append(0, head):
+        if not self._log.append(0, head, b""):
             head = self._log.read(0)[0]
         watched = read_head(head)
         if keyspaces and set(keyspaces) != set(watched):
             raise WrongLog(f"the log watches {_named(watched)}, and {_named(keyspaces)} was asked for")
-        self._place, self._before = 1, sum_of(head)
+        self._place, self._before = 1, head
         return watched
 
     def _play(self) -> None:
@@ -187,14 +187,14 @@ class Controller:
     def _append(self, lines: Sequence[str]) -> list[str]:
         """The answers to lines, which are appended at the first free place, behind what others appended meanwhile."""
         while True:
-            entry = Entry(self._place, self._before, self._digest.hexdigest(), secrets.token_hex(8), lines)
+            entry = Entry(self._place, sum_of(self._before), self._digest.hexdigest(), secrets.token_hex(8), lines)
             if self._reached(lambda: self._stands(entry.text())):
                 return self._apply(entry.text())
             self._reached(self._follow)
 
     def _stands(self, text: bytes) -> bool:
         """Whether an entry stands at the next place: because it was put there now, or by an earlier try that wasn't answered."""
-        return self._log.append(self._place, text) or self._log.read(self._place)[:1] == [text]
+        return self._log.append(self._place, text, self._before) or self._log.read(self._place)[:1] == [text]
 
     def _follow(self) -> None:
         """Applies what others appended."""
@@ -225,7 +225,7 @@ class Controller:
     def _apply(self, text: bytes) -> list[str]:
         """The answers to the lines of the entry at the next place. Raises `WrongLog` if it doesn't follow what was applied, or `CoreFailed`."""
         entry = read_entry(text, self._place)
-        if entry.before != self._before:
+        if entry.before != sum_of(self._before):
             raise WrongLog(f"the entry at place {self._place} of the log doesn't follow the one that stood before it: the log was changed")
         if entry.answers != self._digest.hexdigest():
             raise WrongLog(
@@ -234,7 +234,7 @@ class Controller:
             )
         answers = self.core.apply(entry.lines)
         self._digest.update("".join(f"{it}\n" for it in answers).encode())
-        self._place, self._before = self._place + 1, sum_of(text)
+        self._place, self._before = self._place + 1, text
         applied = [Applied(self.applied + at, line, answer) for at, (line, answer) in enumerate(zip(entry.lines, answers), 1)]
         with self.changed:
             self.last.extend(applied)

@@ -5,6 +5,8 @@ so that a copy is whole. A copy may also stay for some while, and be asked again
 """
 from __future__ import annotations
 
+import ctypes
+import errno
 import multiprocessing
 import os
 import pathlib
@@ -24,6 +26,8 @@ import mt
 
 Answered = list[str]
 APPLY, ASK, COPY = "apply", "ask", "copy"  # what the core's process is told to do
+SPARE = 1 << 20  # bytes that are kept to tell with that there is no memory
+NO_MEMORY = "there was no memory for a line, as there may be elsewhere, so this controller stops"
 
 
 class CoreFailed(Exception):
@@ -65,8 +69,9 @@ class Core:
                 raise CoreFailed("the core's process has ended") from why
 
     def close(self) -> None:
-        """Ends the process."""
+        """Ends the process, which has nothing to lose."""
         self._connection.close()
+        self._process.kill()
         self._process.join()
 
     def _asked(self, what: str, lines: Sequence[str]) -> Answered:
@@ -115,23 +120,27 @@ def _serve(connection: Connection, other_end: Connection, watched: tuple[str, ..
     """Answers what is asked over a connection, until its other end is closed."""
     other_end.close()
     signal.signal(signal.SIGINT, signal.SIG_IGN)  # it ends with who asks it
+    spare = bytearray(SPARE)
     try:
         session = mt.Session(watched)
         connection.send([])
         _answer_all(connection, session)
     except mt.Error as why:
         connection.send(str(why))
+    except MemoryError:
+        del spare
+        connection.send(NO_MEMORY)
     except (EOFError, OSError):
         pass
 
 
 def _answer_all(connection: Connection, session: mt.Session) -> None:
-    """Answers until nobody asks any more. Raises `mt.Error`, and `EOFError` or `OSError` at the end."""
+    """Answers until nobody asks any more. Raises `mt.Error`, `MemoryError`, and `EOFError` or `OSError` at the end."""
     applied, copies = 0, []
     while True:
         what, lines = connection.recv()
         if what == APPLY:
-            connection.send([session.command(f"{line}\n") for line in lines])
+            connection.send(_answers(session, lines))
             applied += len(lines)
         elif what == ASK:
             _answer_by_copy(connection, session, lines)
@@ -154,11 +163,22 @@ def _answer_by_copy(connection: Connection, session: mt.Session, lines: Sequence
         connection.send("a copy of the core ended before it had answered")
 
 
+def _answers(session: mt.Session, lines: Sequence[str]) -> Answered:
+    """The answers to lines. Raises `mt.Error`, and `MemoryError` if the library found no memory for something of them and answered all the same:
+    with a refusal, or a turn of a stream that ends early, which it wouldn't be where there is memory.
+    """
+    ctypes.set_errno(0)
+    answers = [session.command(f"{line}\n") for line in lines]
+    if ctypes.get_errno() == errno.ENOMEM:
+        raise MemoryError
+    return answers
+
+
 def _answer_and_end(connection: Connection, session: mt.Session, lines: Sequence[str]) -> None:
     """Answers lines in a copy, and ends it at once."""
     status = 1
     try:
-        connection.send([session.command(f"{line}\n") for line in lines])
+        connection.send(_answers(session, lines))
         status = 0
     finally:
         os._exit(status)

@@ -3,11 +3,11 @@
 An entry is a JSON object in one line of ASCII. The one at place 0 says whose log it is and which keyspaces are watched; each other has lines, in the
 order in which every controller applies them:
 
-    {"log":"mt","version":1,"watched":["commerce","customer"]}
-    {"place":1,"before":"SHA-256","answers":"SHA-256","by":"ID","lines":["keyspace commerce"]}
+    {"log":"mt","version":1,"watched":["commerce","customer"],"sum":"SHA-256"}
+    {"place":1,"before":"SHA-256","answers":"SHA-256","by":"ID","lines":["keyspace commerce"],"sum":"SHA-256"}
 
 `before` is the sum of the entry before it, as it stands in the log; `answers` that of what `mt run` writes for all lines before it; `by` is drawn anew for
-each entry, so that who appends it knows it again.
+each entry, so that who appends it knows it again; `sum` is that of the entry without it, up to the last line.
 """
 from __future__ import annotations
 
@@ -39,12 +39,12 @@ class Entry:
 
     def text(self) -> bytes:
         """The entry as it stands in a log."""
-        return _text(vars(self))
+        return _summed(vars(self))
 
 
 def head_text(watched: Sequence[str]) -> bytes:
     """The first entry of a log whose controllers watch these keyspaces."""
-    return _text({"log": "mt", "version": VERSION, "watched": list(watched)})
+    return _summed({"log": "mt", "version": VERSION, "watched": list(watched)})
 
 
 def sum_of(text: bytes) -> str:
@@ -79,14 +79,16 @@ def read_head(text: bytes) -> tuple[str, ...]:
     if head["version"] != VERSION:
         raise WrongLog(f"the log is of version {head['version']}, and this controller's is {VERSION}")
     watched = head.get("watched")
-    if not isinstance(watched, list) or not all(isinstance(it, str) for it in watched) or text != head_text(watched):
+    if not isinstance(watched, list) or not all(map(is_line, watched)):
         _not_ours(0, text)
+    _compare(0, text, head_text(watched))
     return tuple(watched)
 
 
 def read_entry(text: bytes, place: int) -> Entry:
     """The entry at a place behind the first. Raises `WrongLog`: it isn't one, or one of another place."""
     members = _members(text, place)
+    members.pop("sum", None)
     lines = members.get("lines")
     if not isinstance(lines, list) or not lines or not all(map(is_line, lines)):
         _not_ours(place, text)
@@ -94,15 +96,24 @@ def read_entry(text: bytes, place: int) -> Entry:
         entry = Entry(**members)
     except TypeError:
         _not_ours(place, text)
-    if entry.text() != text:
+    if type(entry.place) is not int:
         _not_ours(place, text)
+    _compare(place, text, entry.text())
     if entry.place != place:
         raise WrongLog(f"the entry at place {place} of the log was written for place {entry.place}")
     return entry
 
 
-def _text(members: dict[str, Any]) -> bytes:
-    return json.dumps(members, separators=(",", ":")).encode("ascii")
+def _summed(members: dict[str, Any]) -> bytes:
+    """An object of these members, with their sum behind them."""
+    text = json.dumps(members, separators=(",", ":")).encode("ascii")
+    return text[:-1] + f',"sum":"{sum_of(text)}"}}'.encode()
+
+
+def _compare(place: int, text: bytes, written: bytes) -> None:
+    """Raises `WrongLog` if an entry isn't as one with what it says is written."""
+    if text != written:
+        raise WrongLog(f"the entry at place {place} of the log isn't as it was written")
 
 
 def _members(text: bytes, place: int) -> dict[str, Any]:

@@ -10,7 +10,7 @@ from dataclasses import dataclass
 from typing import Any
 
 from mt_controller.entries import WrongLog
-from mt_controller.logs import LogFailed, LogUnreachable, TextAt, in_order
+from mt_controller.logs import LogFailed, LogUnreachable, TextAt, changed_at, in_order
 
 AT_ONCE = 50  # entries
 PATIENCE = 5  # seconds for an answer of one node
@@ -43,17 +43,17 @@ class EtcdLog:
             asked["key"] = _text(self._at.prefix + "/")
         return in_order([self._entry(it) for it in self._ask("/v3/kv/range", asked).get("kvs", [])], place)
 
-    def append(self, place: int, text: bytes) -> bool:
-        key, before = self._key(place), self._key(place - 1)
-        follows = [{"key": before, "result": "GREATER", "target": "CREATE", "create_revision": "0"}] if place else []
+    def append(self, place: int, text: bytes, before: bytes) -> bool:
+        key = self._key(place)
+        follows = [{"key": self._key(place - 1), "result": "EQUAL", "target": "VALUE", "value": base64.b64encode(before).decode()}] if place else []
         answer = self._ask("/v3/kv/txn", {
             "compare": [{"key": key, "result": "EQUAL", "target": "CREATE", "create_revision": "0"}, *follows],
             "success": [{"request_put": {"key": key, "value": base64.b64encode(text).decode()}}],
-            "failure": [{"request_range": {"key": before if place else key, "keys_only": True}}]})
+            "failure": [{"request_range": {"key": key, "keys_only": True}}]})
         if answer.get("succeeded"):
             return True
         if not answer["responses"][0]["response_range"].get("kvs"):
-            raise WrongLog(f"the log has lost entries: none stands at place {place - 1} any more")
+            raise changed_at(place - 1)
         return False
 
     def close(self) -> None:

@@ -25,10 +25,10 @@ class Log(Protocol):
     def read(self, place: int) -> Sequence[bytes]:
         """Some of the entries from a place on, in order: none if there is none there. They are of now, not of an earlier time."""
 
-    def append(self, place: int, text: bytes) -> bool:
+    def append(self, place: int, text: bytes, before: bytes) -> bool:
         """Whether an entry now stands at a place, because this call put it there; not if one stands there already.
 
-        Raises `WrongLog` if nothing stands at the place before it.
+        Raises `WrongLog` if none does, and what stands at the place before isn't `before` (any more); place 0 has none before it.
         """
 
     def close(self) -> None:
@@ -41,3 +41,8 @@ def in_order(found: Sequence[TextAt], place: int) -> list[bytes]:
         if at != expected:
             raise WrongLog(f"the log has a gap: behind place {expected - 1} comes place {at}")
     return [text for _, text in found]
+
+
+def changed_at(place: int) -> WrongLog:
+    """What says that a log isn't any more what was read of it."""
+    return WrongLog(f"the log was changed, or is an earlier state of itself: the entry that stood at place {place} doesn't stand there any more")

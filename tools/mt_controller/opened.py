@@ -28,7 +28,7 @@ def add_words(asked: argparse.ArgumentParser) -> None:
 
 
 def opened_log(given: argparse.Namespace) -> Log:
-    """The log that words name. Raises `WrongWords`, `WrongLog`, `LogFailed`."""
+    """The log that words name. Raises `WrongWords`, `WrongLog`, `LogFailed`, `LogUnreachable`."""
     kind, _, where = given.log.partition(":")
     if kind == "sqlite" and where:
         if given.prefix or given.cacert or given.cert or given.key:

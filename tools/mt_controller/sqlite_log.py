@@ -7,11 +7,12 @@ import sqlite3
 from collections.abc import Iterator, Sequence
 
 from mt_controller.entries import WrongLog
-from mt_controller.logs import LogFailed, in_order
+from mt_controller.logs import LogFailed, LogUnreachable, changed_at, in_order
 
 APPLICATION = 0x6D746C67  # "mtlg", by which SQLite's tools know the file
 AT_ONCE = 200  # entries
-PATIENCE = 60  # seconds for which another controller may hold the file
+PATIENCE = 5  # seconds for which another controller may hold the file, before it is told; one that was stopped may for long
+LOCKED = "database is locked"  # what SQLite then says; nothing was written
 TABLE = "CREATE TABLE entries (place INTEGER PRIMARY KEY, entry BLOB NOT NULL)"
 
 
@@ -19,7 +20,7 @@ class SqliteLog:
     """The entries of a file. What `append` has put there stays, even if the machine loses its power."""
 
     def __init__(self, path: str) -> None:
-        """Opens the file, or makes it. Raises `WrongLog` for a file that is no log, `LogFailed` for one that can't be opened."""
+        """Opens the file, or makes it. Raises `WrongLog` for a file that is no log, `LogFailed` or `LogUnreachable` for one that can't be opened."""
         self.name, self._path = f"sqlite:{path}", path
         with self._told():
             # several threads may hand it on, but only one uses it at a time
@@ -40,24 +41,26 @@ class SqliteLog:
     def _is_log(self) -> bool:
         """Whether the file is a log already, not an empty one. Raises `WrongLog` if it is something else."""
         (application,) = self._file.execute("PRAGMA application_id").fetchone()
-        (tables,) = self._file.execute("SELECT count(*) FROM sqlite_master").fetchone()
-        if application != APPLICATION and (application or tables):
+        tables = self._file.execute("SELECT sql FROM sqlite_master").fetchall()
+        is_log = application == APPLICATION and tables == [(TABLE,)]
+        if not is_log and (application or tables):
             raise WrongLog(f"{self._path} is a file of SQLite, but no log of a controller")
-        return bool(tables)
+        return is_log
 
     def read(self, place: int) -> Sequence[bytes]:
         with self._told():
             found = self._file.execute("SELECT place, entry FROM entries WHERE place >= ? ORDER BY place LIMIT ?", (place, AT_ONCE)).fetchall()
         return in_order(found, place)
 
-    def append(self, place: int, text: bytes) -> bool:
+    def append(self, place: int, text: bytes, before: bytes) -> bool:
         with self._told(), self._transaction():
-            (last,) = self._file.execute("SELECT coalesce(max(place), -1) FROM entries").fetchone()
-            if last < place - 1:
-                raise WrongLog(f"the log has lost entries: its last one stood at place {place - 1} at least, and stands at {last}")
-            if last == place - 1:
-                self._file.execute("INSERT INTO entries VALUES (?, ?)", (place, text))
-            return bool(last == place - 1)
+            stand = dict(self._file.execute("SELECT place, entry FROM entries WHERE place >= ? ORDER BY place LIMIT 2", (place - 1,)))
+            if place in stand:
+                return False
+            if place and stand.get(place - 1) != before:
+                raise changed_at(place - 1)
+            self._file.execute("INSERT INTO entries VALUES (?, ?)", (place, text))
+            return True
 
     def close(self) -> None:
         self._file.close()
@@ -80,4 +83,5 @@ class SqliteLog:
         try:
             yield
         except sqlite3.Error as why:
-            raise LogFailed(f"{self._path}: {why}") from why
+            kind = LogUnreachable if str(why) == LOCKED else LogFailed
+            raise kind(f"{self._path}: {why}") from why
