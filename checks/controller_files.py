@@ -107,10 +107,9 @@ def turned(bench: Bench) -> list[str]:
     """Files with a byte turned: one of an entry is told with its place; by one elsewhere the log is refused, or is as it was."""
     _, closed = left(bench)
     drawn = random.Random(bench.seed)
-    places = {place: closed.file.index(text) + drawn.randrange(len(text)) for place, text in enumerate(closed.entries[:-1])}
-    told = {at: (f"place {place} ", f"place {place + 1} ", *["watches"] * (place == 0)) for place, at in places.items()}
-    last = range(closed.file.index(closed.entries[-1]), closed.file.index(closed.entries[-1]) + len(closed.entries[-1]))
-    ats = [*told, *drawn.sample([it for it in range(len(closed.file)) if it not in last], 12), *drawn.sample(range(100), 8)]
+    places = {place: closed.file.index(text) + drawn.randrange(len(text)) for place, text in enumerate(closed.entries)}
+    told = {at: (f"place {place} ", *["version"] * (place == 0)) for place, at in places.items()}
+    ats = [*told, *drawn.sample(range(len(closed.file)), 12), *drawn.sample(range(100), 8)]
     bench.tally.add(faults=len(ats))
     return [f"byte {at}: {odd}" for at in ats for odd in opens(bench, turned_at(closed, at), *told.get(at, ()), is_whole=True)]
 

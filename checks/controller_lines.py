@@ -77,8 +77,8 @@ def many(bench: Bench) -> list[str]:
     drawn = random.Random(bench.seed)
     lines = ["keyspace k", "table k t", *(f"insert t {key} v{key}" for key in range(ROWS))]
     given = "".join(f"{it}\n" for it in [*lines, *(f"get t {drawn.randrange(ROWS)}" for _ in range(MANY - len(lines)))]).encode()
-    log, expected = SqliteAt(bench.folder() / "log"), bench.output(given, [])
-    ended, printed = bench.ended([*log.words(), "--batch"], given)
+    log, expected = SqliteAt(bench.folder() / "log"), bench.output(given, ["k"])
+    ended, printed = bench.ended([*log.words(), "--batch", "k"], given)
     entries = log.entries()
     bench.tally.add(lines=MANY, entries=len(entries), answered=printed.count(b"\n"))
     found = went_well(ended)

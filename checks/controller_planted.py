@@ -34,6 +34,7 @@ REPLACED = [
 ]
 NO_DIGEST = [("controller", "if entry.answers != self._digest.hexdigest():", "if False:")]
 NOT_BEFORE = [("controller", "if entry.before != sum_of(self._before):", "if False:")]
+NOT_SUMMED = [("entries", "if text != written:", "if False:")]
 ANY_BEFORE = [("sqlite_log", "if place and stand.get(place - 1) != before:", "if False:")]
 OTHER_ORDER = [("controller", f"        for it in asked:\n            {ANSWERED}", f"        for it in reversed(asked):\n            {ANSWERED}")]
 NOT_FLUSHED = [("batch", "        sys.stdout.flush()\n", "")]
@@ -46,7 +47,8 @@ ANY_BEHIND = [("etcd_log", BEHIND, '"result": "GREATER", "target": "VALUE", "val
 IN_FILES: list[Fault] = [
     ("it answers before it appends", ANSWERED_FIRST, crowds.held_up),
     ("a digest that isn't compared", NO_DIGEST, lambda it: spoilt(it, "other answers before it")),
-    ("an entry before that isn't compared", NOT_BEFORE, lambda it: spoilt(it, "an entry that was changed")),
+    ("an entry before that isn't compared", NOT_BEFORE, lambda it: spoilt(it, "another entry before it")),
+    ("a sum that isn't compared", NOT_SUMMED, lambda it: spoilt(it, "a last entry that was changed")),
     ("a place that a second one takes", REPLACED, lambda it: crowds.three(it, SqliteAt(it.folder() / "log"))),
     ("an entry put behind another", ANY_BEFORE, lambda it: wrong.set_back(it, wrong.in_files(it))),
     ("answers in another order", OTHER_ORDER, lines.grouped),

@@ -232,12 +232,18 @@ def entry(place: int, before: bytes, answers: Sequence[str], lines: Sequence[str
     """An entry as a controller writes it, behind another, with the answers before it."""
     digest = hashlib.sha256("".join(f"{it}\n" for it in answers).encode()).hexdigest()
     members = {"place": place, "before": hashlib.sha256(before).hexdigest(), "answers": digest, "by": "0123456789abcdef", "lines": list(lines)}
-    return json.dumps(members, separators=(",", ":")).encode()
+    return summed(members)
+
+
+def summed(members: dict[str, object]) -> bytes:
+    """An entry of these members, with the sum that it must have."""
+    text = json.dumps(members, separators=(",", ":"))
+    return f'{text[:-1]},"sum":"{hashlib.sha256(text.encode()).hexdigest()}"}}'.encode()
 
 
 def head(watched: Sequence[str] = WATCHED) -> bytes:
     """The first entry of a log."""
-    return json.dumps({"log": "mt", "version": 1, "watched": list(watched)}, separators=(",", ":")).encode()
+    return summed({"log": "mt", "version": 1, "watched": list(watched)})
 
 
 def differences(bench: Bench, log: LogAt, feeds: Sequence[Feed], watched: Sequence[str] = WATCHED) -> list[str]:

@@ -8,7 +8,7 @@ import sqlite3
 from collections.abc import Callable, Iterator, Sequence
 
 from controller_logs import EtcdAt, Nodes, SqliteAt, answering, free_ports
-from controller_runs import SETUP, WATCHED, Bench, Case, LogAt, Marks, Running, entry, head, skipped, stopped_well, until
+from controller_runs import SETUP, WATCHED, Bench, Case, LogAt, Marks, Running, entry, head, skipped, stopped_well, summed, until
 
 ASKED = b"get corder 1\n"
 LINES = [SETUP, ["get corder 1"], ["append corder 1 b", "get corder 1"]]  # of the entries of a log that is right
@@ -40,7 +40,8 @@ def spoilt(good: Sequence[bytes]) -> Iterator[tuple[str, dict[int, bytes | None]
     yield "an entry of another place", {2: good[3]}, ["written for place 3"]
     yield "other answers before it", {3: entry(3, good[2], ["ok"], LINES[2])}, ["place 3", "answers"]
     yield "another entry before it", {3: entry(3, good[1], ["ok"], LINES[2])}, ["place 3", "follow"]
-    yield "an entry that was changed", {2: good[2].replace(b"corder 1", b"corder  1")}, ["place 3", "follow"]
+    yield "an entry that was changed", {2: good[2].replace(b"corder 1", b"corder  1")}, ["place 2", "as it was written"]
+    yield "a last entry that was changed", {3: good[3].replace(b"corder", b"border")}, ["place 3", "as it was written"]
     yield from ((f"at place 2 {text[:200]!r}", {2: text}, ["place 2 "]) for text in bad_texts(good[2]))
     yield from ((f"at place 0 {text!r}", {0: text}, []) for text in bad_heads())
 
@@ -51,15 +52,16 @@ def bad_texts(good: bytes) -> Iterator[bytes]:
     yield from (good.replace(b'"by"', b'"of"'), good.replace(b'"place":2', b'"place":2.0'), good.replace(b'{"place"', b'{"more":1,"place"'))
     for lines in ([], [1], "get corder 1", ["get corder 1", None], ["# a comment"], [" \t"], ["get corder 1\n"], ["\ud800"], ["get \udbff corder"], {"a": 1}):
         members = json.loads(good)
+        del members["sum"]
         members["lines"] = lines
-        yield json.dumps(members, separators=(",", ":")).encode()
+        yield summed(members)
 
 
 def bad_heads() -> Iterator[bytes]:
     """What is no first entry, or one with what are no keyspaces."""
     yield from (b"", b"[]", b"{}", b'{"log":"other","version":1,"watched":[]}', b'{"log":"mt","version":true,"watched":[]}', b'{"log":"mt","version":1}')
     for watched in ("commerce", [1], ["a b"], [""], ["-a"], ["\ud800"], ["\udc80"], [f"k{at}" for at in range(40)], ["a", "a"] * 20):
-        yield json.dumps({"log": "mt", "version": 1, "watched": watched}, separators=(",", ":")).encode()
+        yield summed({"log": "mt", "version": 1, "watched": watched})
 
 
 def one_spoilt(bench: Bench, made: Made, name: str) -> list[str]:
