@@ -9,6 +9,7 @@ from collections.abc import Callable, Sequence
 import controller_crowds as crowds
 import controller_files as files
 import controller_lines as lines
+import controller_tls as tls
 import controller_wrong as wrong
 from controller_logs import EtcdAt, Nodes, SqliteAt
 from controller_runs import Bench, Case, Tally, skipped
@@ -40,6 +41,7 @@ OTHER_ORDER = [("controller", f"        for it in asked:\n            {ANSWERED}
 NOT_FLUSHED = [("batch", "        sys.stdout.flush()\n", "")]
 WITHOUT_MEMORY = [("core", "if ctypes.get_errno() == errno.ENOMEM:", "if False:")]
 HELD = [("batch", 'open(sys.stdin.fileno(), "rb", closefd=False)', "sys.stdin.buffer")]
+NOT_VERIFIED = [("opened", "ssl.create_default_context(cafile=given.cacert)", "ssl._create_unverified_context()")]
 NO_LOOK = [("controller", LOOKED_FOR, LOOKED_FOR.partition(" or ")[0])]
 NOT_FREE = [("etcd_log", FREE, '"compare": follows,')]
 ANY_BEHIND = [("etcd_log", BEHIND, '"result": "GREATER", "target": "VALUE", "value": ""')]
@@ -68,6 +70,7 @@ def in_etcd(nodes: Nodes | None) -> list[Fault]:
     return [
         ("a second try without a look", NO_LOOK, lambda it: crowds.through_losses(it, nodes, 40)),
         ("a place that needn't be free", NOT_FREE, lambda it: crowds.three(it, EtcdAt(nodes, f"/mt/{it.folder().name}"))),
+        ("a certificate that isn't compared", NOT_VERIFIED, tls.with_certificates),
         ("an entry of etcd put behind another", ANY_BEHIND, lambda it: wrong.set_back(it, wrong.in_etcd(it, nodes))),
     ]
 
