@@ -13,7 +13,7 @@ from dataclasses import dataclass
 
 from mt_controller.core import Core, CoreFailed
 from mt_controller.entries import MOST_BYTES, Entry, WrongLog, head_text, is_line, read_entry, read_head, sum_of, written_size
-from mt_controller.logs import Log, LogFailed, LogUnreachable
+from mt_controller.logs import Log, LogFailed, LogUnreachable, entries_from
 
 LOOKS_EVERY = 0.2  # seconds, for what others appended
 TRIES_EVERY = 0.5  # seconds, for a log that can't be reached
@@ -120,9 +120,8 @@ class Controller:
     def _play(self) -> None:
         """Applies all that stands in the log."""
         told = time.monotonic()
-        while texts := self._log.read(self._place):
-            for text in texts:
-                self._apply(text)
+        for text in entries_from(self._log, self._place):
+            self._apply(text)
             if time.monotonic() > told + TELLS_EVERY:
                 told = time.monotonic()
                 self._tell(f"{self.applied:,} lines of the log are applied so far")
@@ -178,8 +177,7 @@ class Controller:
         try:
             answers = iter(self._append([line for it in asked for line in it.lines]))
         except BaseException:
-            for it in asked:
-                it.answers.set_exception(Ended())
+            _give_up(asked)
             raise
         for it in asked:
             it.answers.set_result([next(answers) for _ in it.lines])
@@ -198,9 +196,8 @@ class Controller:
 
     def _follow(self) -> None:
         """Applies what others appended."""
-        while texts := self._log.read(self._place):
-            for text in texts:
-                self._apply(text)
+        for text in entries_from(self._log, self._place):
+            self._apply(text)
 
     def _reached(self, call: Callable[[], object]) -> object:
         """What a call gives once the log can be reached."""
@@ -252,6 +249,12 @@ class Controller:
                 return
             if asked:
                 asked.answers.set_exception(Ended())
+
+
+def _give_up(asked: Sequence[Asked]) -> None:
+    """Tells those who wait that they won't be answered."""
+    for it in asked:
+        it.answers.set_exception(Ended())
 
 
 def _named(keyspaces: Sequence[str]) -> str:

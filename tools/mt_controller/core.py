@@ -136,7 +136,8 @@ def _serve(connection: Connection, other_end: Connection, watched: tuple[str, ..
 
 def _answer_all(connection: Connection, session: mt.Session) -> None:
     """Answers until nobody asks any more. Raises `mt.Error`, `MemoryError`, and `EOFError` or `OSError` at the end."""
-    applied, copies = 0, []
+    applied = 0
+    copies: list[int] = []
     while True:
         what, lines = connection.recv()
         if what == APPLY:

@@ -1,7 +1,7 @@
 """What a log is to a controller: entries at places that are counted from 0, of which each is written once and then stays."""
 from __future__ import annotations
 
-from collections.abc import Sequence
+from collections.abc import Iterator, Sequence
 from typing import Protocol
 
 from mt_controller.entries import WrongLog
@@ -33,6 +33,13 @@ class Log(Protocol):
 
     def close(self) -> None:
         """Lets go of it."""
+
+
+def entries_from(log: Log, place: int) -> Iterator[bytes]:
+    """The entries of a log from a place on, up to the last. Raises what its calls raise."""
+    while texts := log.read(place):
+        yield from texts
+        place += len(texts)
 
 
 def in_order(found: Sequence[TextAt], place: int) -> list[bytes]:

@@ -8,7 +8,7 @@ from collections.abc import Iterator
 
 from mt_controller.entries import WrongLog, read_entry, read_head
 from mt_controller.etcd_log import EtcdAt, EtcdLog
-from mt_controller.logs import Log
+from mt_controller.logs import Log, entries_from
 from mt_controller.sqlite_log import SqliteLog
 
 NODE = re.compile(r"[^\s/:\[\]]+:\d{1,5}|\[[0-9a-fA-F:.]+\]:\d{1,5}")
@@ -45,11 +45,8 @@ def opened_log(given: argparse.Namespace) -> Log:
 
 def lines_of(log: Log) -> Iterator[str]:
     """The lines of a log, in their order; nothing is applied. Raises what its calls raise."""
-    place = 0
-    while texts := log.read(place):
-        for place, text in enumerate(texts, place):
-            yield from read_entry(text, place).lines if place else ()
-        place += 1
+    for place, text in enumerate(entries_from(log, 0)):
+        yield from read_entry(text, place).lines if place else ()
 
 
 def watched_by(log: Log) -> tuple[str, ...]:

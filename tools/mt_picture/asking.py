@@ -8,7 +8,7 @@ from typing import NamedTuple
 
 from mt_picture.facts import StreamFacts
 from mt_picture.moves import Begun
-from mt_runs.program import Program, ProgramFailed, is_refusal
+from mt_runs.program import Answering, ProgramFailed, is_refusal
 from mt_runs.shards import first_key
 from mt_runs.show import TYPES, Move, parse_show, stream_word
 from mt_runs.topology import Topology, parse_dump
@@ -49,7 +49,7 @@ def reads_of(move: Begun) -> list[Read]:
     return [*by_name, *(Read(False, side, table, shard) for table in move.tables for side, shard in sides)]
 
 
-def look(program: Program, before: Sequence[str], moves: Sequence[Begun]) -> Looked:
+def look(program: Answering, before: Sequence[str], moves: Sequence[Begun]) -> Looked:
     """What stands behind some lines, in one run, as none of its questions changes anything. Raises `ProgramFailed`, as a run does."""
     place = len(before) - 1
     lives = [it.lives(place) for it in moves]
@@ -73,7 +73,7 @@ def served(read: Read, answer: str, topology: Topology) -> str:
     return led_to
 
 
-def streams_behind(program: Program, before: Sequence[str], move: Move) -> list[StreamFacts]:
+def streams_behind(program: Answering, before: Sequence[str], move: Move) -> list[StreamFacts]:
     """The streams of a move, in one run; of each that runs what one turn would read and copy. Raises `ProgramFailed`, as a run does.
 
     No turn of one stream of a move is seen by another that runs: those of one direction read one log, or each its own, and write in others; and streams of both

@@ -8,7 +8,7 @@ from mt_picture.facts import DriveFacts, WayFacts
 from mt_picture.moves import Begun
 from mt_picture.script import words_of
 from mt_runs.plan import NAMES, PlannedStep, planned_steps
-from mt_runs.program import Program, ProgramFailed, is_refusal
+from mt_runs.program import Answering, ProgramFailed, is_refusal
 from mt_runs.show import Move, Way, parse_show, stream_word
 from mt_runs.topology import Part, parse_dump
 
@@ -38,7 +38,7 @@ def lines_back(shown: Move) -> list[str]:
     return [f"reverse {shown.name} all"] if shown.switched else [f"cancel {shown.name}"]
 
 
-def try_back(program: Program, before: Sequence[str], move: Begun, shown: Move) -> Trial:
+def try_back(program: Answering, before: Sequence[str], move: Begun, shown: Move) -> Trial:
     """Tries the way back from behind some lines. Raises `ProgramFailed`, as a run does."""
     lines = lines_back(shown)
     *answers, dump = program.ask(before, [*lines, "dump"])
@@ -63,7 +63,7 @@ def step_names(directions: set[str]) -> list[str]:
     return [PlannedStep(number, None, directions == {"back"}).name(old, new) for number in sorted(NAMES)]
 
 
-def drive_facts(program: Program, before: Sequence[str], line: str, answer: str, shards: Sequence[str]) -> DriveFacts:
+def drive_facts(program: Answering, before: Sequence[str], line: str, answer: str, shards: Sequence[str]) -> DriveFacts:
     """The steps that a `switch` or a `reverse` took behind some lines, by its answer. Raises `ProgramFailed`, as a run does.
 
     Of one that gave itself up they are counted by taking them one by one, in runs of their own.
@@ -83,7 +83,7 @@ def drive_facts(program: Program, before: Sequence[str], line: str, answer: str,
     return DriveFacts("back" if way.back else "forward", way.types, steps, done, outcome == "abandoned")
 
 
-def _reached(program: Program, begun: Sequence[str], workflow: str, back: bool) -> int:
+def _reached(program: Answering, begun: Sequence[str], workflow: str, back: bool) -> int:
     """How many steps of a way are done until one is refused, with turns of the streams between, as a drive has them."""
     lines, done, tries = list(begun), 0, 1
     while True:

@@ -203,6 +203,7 @@ def _candidates(prompt: Prompt, placeholder: str) -> set[str]:
         **dict.fromkeys(("K", "S", "G"), set(topology.keyspaces)),
         **dict.fromkeys(("T", "TABLES"), tables),
         **dict.fromkeys(("NAME", "KEY", "TARGET"), tables | places | set(topology.rules)),
-        **{"K.T": places, "W": prompt.script.workflows(), "TYPES": {"all", *TYPES}, "STREAM": streams, "insert": set(ROW_LINES), "[WORD]": {*prompt.page.forms, *OWN_LINES}},
+        **{"K.T": places, "W": prompt.script.workflows(), "TYPES": {"all", *TYPES}, "STREAM": streams, "insert": set(ROW_LINES)},
+        "[WORD]": {*prompt.page.forms, *OWN_LINES},
     }
     return found.get(placeholder, set())

@@ -5,6 +5,7 @@ import os
 import pathlib
 import subprocess
 from collections.abc import Iterable, Sequence
+from typing import Protocol
 
 REPOSITORY = pathlib.Path(__file__).resolve().parents[2]
 OWN_PROGRAM = REPOSITORY / "mt"
@@ -30,6 +31,13 @@ def is_refused(answer: str) -> bool:
 def is_refusal(answer: str) -> bool:
     """Whether an answer names a refusal: of the line, or of a step that a whole switch gave itself up at, or stopped at."""
     return is_refused(answer) or answer.startswith(("abandoned ", "stopped "))
+
+
+class Answering(Protocol):
+    """What answers questions behind some lines, as a `Program` does."""
+
+    def ask(self, before: Sequence[str], more: Sequence[str]) -> list[str]:
+        """The answers to the lines `more` behind the lines `before`. Nothing stays. Raises `ProgramFailed`."""
 
 
 class Program:
