@@ -13,7 +13,7 @@ from http import HTTPStatus
 from typing import Any
 
 from mt_controller.asked import AskedLines, TooManyWait
-from mt_controller.controller import Applied, Controller
+from mt_controller.controller import LOOKS_EVERY, Applied, Controller
 from mt_controller.growing import told_text
 from mt_controller.pictured import Picture
 from mt_controller.prompted import LoggedScript
@@ -111,11 +111,20 @@ def serve(controller: Controller, service: Service, at: Listening, tell: Callabl
         controller.start()
         service.picture.start()
         tell(f"listens on {server.url()}")
-        told = ends.get()
+        told = _first(ends)
         service.ended = f"it was ended by {signal.Signals(told).name}" if told else str(controller.ended.result())
         _end(controller, service, tell)
         server.shutdown()
     return 128 + told if told else FAILED
+
+
+def _first(ends: queue.SimpleQueue[int | None]) -> int | None:
+    """What ends the server. It is looked for again and again, as a signal that another thread of the process is given wakes nobody who waits."""
+    while True:
+        try:
+            return ends.get(timeout=LOOKS_EVERY)
+        except queue.Empty:
+            continue
 
 
 def _end(controller: Controller, service: Service, tell: Callable[[str], None]) -> None:
