@@ -20,6 +20,7 @@ from typing import Any
 TOP = pathlib.Path(__file__).resolve().parent.parent
 LISTENS = re.compile(r"controller: listens on (http://\S+:(\d+)/)\n")
 JSON = {"Content-Type": "application/json"}
+PATIENCE = 120  # seconds after which a controller that was told to end never will
 Cases = Iterator["tuple[str, list[str]]"]
 
 
@@ -107,7 +108,10 @@ class Serving:
         """Its status behind a signal, and what it told since it listens."""
         self.process.send_signal(number)
         assert self.process.stderr
-        return self.process.wait(), self.process.stderr.read()
+        try:
+            return self.process.wait(PATIENCE), self.process.stderr.read()
+        except subprocess.TimeoutExpired as why:
+            raise NotServed(f"it doesn't end by {number.name}") from why
 
     def asked(self, path: str, body: object, **headers: str) -> tuple[int, Any]:
         """The status and the answer to what a page asks; of a refusal its text."""
