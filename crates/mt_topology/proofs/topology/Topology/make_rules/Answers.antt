@@ -5,7 +5,7 @@ use Rattle.mt_model.specs.declared.entries.EntryKey.TheVariants as about
 use Rattle.mt_model.specs.Part.{keys_of_name}
 use Rattle.mt_topology.specs.Part.{places_refusal}
 use Rattle.mt_topology.proofs.RoomLemmas.{places_refusal-append}
-use Rattle.mt_topology.proofs.topology.Topology.make_names.Goals as goal
+use Rattle.mt_topology.proofs.topology.Topology.make_rules.Goals as goal
 
 abbrev names : Option (List ℕ) → List ℕ → List EntryKey
 names keyspace table = map about.Rule (keys_of_name keyspace table)
