@@ -1,5 +1,5 @@
 -- A table none of whose rule keys has a rule.
-use Rattle.std.proofs.Common.{◌≡◌, ℕ, List, [], ◌∷◌, ◌++◌, Option, None, Some, find, unwrap_or, option_and_then, refl, ap, sym, ◌∙◌}
+use Rattle.std.proofs.Common.{◌≡◌, ℕ, List, [], ◌∷◌, Option, None, Some, find, unwrap_or, option_and_then, refl, ap, sym, ◌∙◌}
 use Rattle.std.specs.List.{AllByRecursion}
 use Rattle.std.specs.Map.{lookup}
 use Rattle.indexmap.specs.IndexMap.{insert_entry}
@@ -7,7 +7,7 @@ use Rattle.mt_names.specs.declared.keys.RuleKey.{RuleKey}
 use Rattle.mt_names.specs.declared.types.TabletType.{TabletType}
 use Rattle.mt_names.specs.declared.types.TabletType.TheVariants.{Primary, Replica, Rdonly}
 use Rattle.mt_names.specs.Same.{same_key}
-use Rattle.mt_model.specs.Part.{keys_of_name, table_rule_keys}
+use Rattle.mt_model.specs.Part.{keys_of_name}
 use Rattle.mt_model.specs.Topology.{Rules, rule_at}
 use Rattle.mt_rules.specs.declared.four.FourPlaces.{FourPlaces}
 use Rattle.mt_rules.specs.Places.{place_at}
@@ -41,18 +41,6 @@ pub without_rules : (rules : Rules) (keyspace : Option (List ℕ)) (table : List
 without_rules rules keyspace table four are blank =
     let none : (type : Option TabletType) → rule_at rules (named keyspace table type) ≡ None = λ type. ap (λ o. unwrap_or o None) (sym (are type)) ∙ blank type in
     (none None, (none (Some Primary), (none (Some Replica), (none (Some Rdonly), tt))))
-
--- ---- those of a table
-
-none_more : (rules : Rules) (front back : List RuleKey) → NoneHas rules front → NoneHas rules back → NoneHas rules (front ++ back)
-none_more rules [] back none others = others
-none_more rules (key ∷ front) back none others = (none.0, none_more rules front back none.1 others)
-
-pub none_of_table : (rules : Rules) (source target table : List ℕ) → NoneHas rules (keys_of_name None table) → NoneHas rules (keys_of_name (Some source) table)
-    → NoneHas rules (keys_of_name (Some target) table) → NoneHas rules (table_rule_keys source target table)
-none_of_table rules source target table alone at_source at_target =
-    none_more rules (keys_of_name None table) (keys_of_name (Some source) table ++ keys_of_name (Some target) table) alone
-    (none_more rules (keys_of_name (Some source) table) (keys_of_name (Some target) table) at_source at_target)
 
 -- ---- none leads elsewhere
 
