@@ -31,7 +31,7 @@ marks_there marks name there = by (lookup (same_text name) marks) there
     by None e = absurd (true≢false (sym e))
     by (Some mark) e = refl
 
-rules_there : (rules : Rules) (key : RuleKey) → is_some (lookup (same_key key) rules) ≡ true → with_rule_place rules key ≡ rules
+pub rules_there : (rules : Rules) (key : RuleKey) → is_some (lookup (same_key key) rules) ≡ true → with_rule_place rules key ≡ rules
 rules_there rules key there = by (lookup (same_key key) rules) there
   where
     by : (r : Option (Option RuleTarget)) → is_some r ≡ true → option_map_or (λ rule. rules) r (put_rule rules (key, None)) ≡ rules
