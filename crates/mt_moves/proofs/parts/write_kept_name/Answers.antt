@@ -23,7 +23,7 @@ returns c =
     let kept = c.kept_names-kept.result in
     let at : Option TabletType → RuleKey = λ type. record { keyspace = option_copied c.args.keyspace; table = c.args.table.now; tablet_type = type } in
     let written : RuleKey → Option RuleTarget → Option RuleTarget → Option RuleTarget → Option RuleTarget → TopologyState =
-        λ name plain primary replica rdonly. with_entries c.args.topology.now (map (λ r. entry.Rule r.0 r.1) (four_rules name plain primary replica rdonly)) in
+    λ name plain primary replica rdonly. with_entries c.args.topology.now (map (λ r. entry.Rule r.0 r.1) (four_rules name plain primary replica rdonly)) in
     let plain = rule_at w.kept (at None) in
     let primary = rule_at w.kept (at (Some Primary)) in
     let replica = rule_at w.kept (at (Some Replica)) in
