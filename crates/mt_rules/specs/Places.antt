@@ -1,5 +1,6 @@
 -- Names, each with the places of its four keys, and the rules that stand at these in the order of their keys.
 use Rattle.std.specs.Prelude.{ℕ, ◌+◌, Bool, true, false, List, [], ◌∷◌, ◌++◌, flat_map, find, is_some, unwrap_or, Option, None, Some, option_and_then, option_map}
+use Rattle.std.specs.Hash as fed
 use Rattle.std.specs.Int.{from_bool}
 use Rattle.std.specs.Map.{lookup, set_value}
 use Rattle.std.specs.Option.{option_map_or}
@@ -7,6 +8,7 @@ use Rattle.mt_names.specs.declared.keys.RuleKey.{RuleKey}
 use Rattle.mt_names.specs.declared.keys.RuleTarget.{RuleTarget}
 use Rattle.mt_names.specs.declared.types.TabletType.{TabletType}
 use Rattle.mt_names.specs.declared.types.TabletType.TheVariants.{Primary, Replica, Rdonly}
+use Rattle.mt_names.specs.Hashes.{keyspace_input}
 use Rattle.mt_names.specs.Same.{same_key}
 use Rattle.mt_model.specs.Order.{key_before, ordered}
 use Rattle.mt_model.specs.Topology.{Rules}
@@ -75,6 +77,10 @@ name_of key = record { keyspace = key.keyspace; table = key.table }
 -- the key of a name for a type or for all
 abbrev pub key_of : RuleName → Option TabletType → RuleKey
 key_of name type = record { keyspace = name.keyspace; table = name.table; tablet_type = type }
+
+-- what a name feeds a hasher
+abbrev pub name_input : RuleName → fed.HashWrites
+name_input name = name.table ∷ keyspace_input name.keyspace
 
 -- the test that `==` of two names computes
 abbrev pub same_name : RuleName → RuleName → Bool

@@ -8,15 +8,34 @@ ghost use Rattle.mt_rules.specs.Rules.{lent_rule};
 use crate::four::FourPlaces;
 use mt_names::{KeyspaceName, RuleKey, RuleTarget, TableName, TabletType};
 use std::alloc::{AllocError, Global};
+use std::hash::{Hash, Hasher};
 use std::marker::Model;
 
 /// The name that rule keys are for: a table's by itself, or at a keyspace.
-#[derive(Debug, Drop, Eq, Hash, PartialEq)]
+#[derive(Debug, Drop, Eq, PartialEq)]
 pub struct RuleName {
     /// The keyspace, where the name is qualified.
     pub keyspace: Option<KeyspaceName>,
     /// The table.
     pub table: TableName,
+}
+
+/// A name feeds a hasher its texts without the marks that a text's own hash sets behind them.
+impl Hash for RuleName {
+    ghost use Rattle.std.proofs.Common.{rules};
+    ghost use Rattle.std.specs.Cmp.Rules.{hashing};
+    ghost use Rattle.mt_rules.specs.Places.{name_input};
+
+    ghost hash_input = { name_input };
+
+    ghost respects_eq = { Prim.search (hashing, rules) };
+
+    fn hash<H: Hasher>(&self, state: &mut H) {
+        state.write(self.table.as_str().as_bytes());
+        if let Some(keyspace) = &self.keyspace {
+            state.write(keyspace.as_str().as_bytes());
+        }
+    }
 }
 
 impl RuleName {

@@ -154,7 +154,7 @@ impl Places {
     }
 
     /// Sets the rules of two keys of a name, each of which has a place, one after the other, by the names of where they lead, or takes
-    /// them away, and leaves the rules before. The type of the key is not looked at. It takes no memory, and looks the name up once.
+    /// them away, and leaves the rules before. The type of the key is not looked at. It takes no memory, and looks the name up twice.
     pub(crate) fn exchange_two(
         &mut self,
         key: &RuleKey,
@@ -209,7 +209,7 @@ impl Places {
     }
 
     /// Drops those places of a name's four keys that have no rule, the last first. The type of the key is not looked at. It takes no
-    /// memory, and looks the name up twice.
+    /// memory, and looks the name up three times at most.
     pub(crate) fn release_name(&mut self, key: &RuleKey)
         ensures { self.new ≡ fold without_rule_place self.old (reverse (four_keys key.now)) }
     {

@@ -248,7 +248,7 @@ impl RoutingRules {
     }
 
     /// Makes a place for a key that has none, without a rule, where there is room for one more. `R0 Memory`, which leaves
-    /// all as it was. It looks the key up once, and `reserve_key` twice.
+    /// all as it was. It looks the key's name up three times at most, and `reserve_key` once more.
     pub fn add_key(&mut self, key: &RuleKey) -> Result<(), RulesFault>
         requires lacks { has_rule_place self.old key.now ≡ false }
         requires room { length self.old < most_rules }
@@ -261,7 +261,7 @@ impl RoutingRules {
     }
 
     /// Makes the places of a name's four keys, none of which has one, without rules, where there is room for four more. The type of the
-    /// key is not looked at. `R0 Memory`, which leaves all as it was. It looks the name up once.
+    /// key is not looked at. `R0 Memory`, which leaves all as it was. It looks the name up three times.
     pub fn add_name(&mut self, name: &RuleKey) -> Result<(), RulesFault>
         requires lacks { AllByRecursion (λ key. has_rule_place self.old key ≡ false) (four_keys name.now) }
         requires room { length self.old + 4 ≤ most_rules }
@@ -327,7 +327,7 @@ impl RoutingRules {
     }
 
     /// Sets the rules of two keys of a name, each of which is reserved, one after the other, by the names of where they lead, or takes
-    /// them away, and leaves the rules before. The type of the key is not looked at. It takes no memory, and looks the name up once.
+    /// them away, and leaves the rules before. The type of the key is not looked at. It takes no memory, and looks the name up twice.
     pub fn exchange_two(
         &mut self,
         name: &RuleKey,

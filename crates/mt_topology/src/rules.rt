@@ -87,7 +87,7 @@ pub fn lacks_name(rules: &RoutingRules, keyspace: Option<&KeyspaceName>, table: 
     !rules.has_place(&key)
 }
 
-/// Drops the places of a name's four keys that hold no rule, the last first. The name is looked up twice.
+/// Drops the places of a name's four keys that hold no rule, the last first. The name is looked up three times at most.
 pub fn release_name(rules: &mut RoutingRules, keyspace: Option<&KeyspaceName>, table: &TableName)
     ensures { rules.new ≡ fold without_rule_place rules.old (reverse (keys_of_name (option_copied keyspace.entry) table.now)) }
 {

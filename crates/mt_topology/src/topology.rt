@@ -237,7 +237,7 @@ impl Topology {
     }
 
     /// Writes the rules of two keys of a name, each of which has a place, one after the other, by the names of where they lead, or takes
-    /// them away, and leaves the rules before. The type of the key is not looked at. It takes no memory, and looks the name up once.
+    /// them away, and leaves the rules before. The type of the key is not looked at. It takes no memory, and looks the name up twice.
     pub fn exchange_two(
         &mut self,
         name: &RuleKey,

@@ -199,7 +199,7 @@ impl Topology {
         }
     }
 
-    /// Makes the places of a name's four rule keys, none of which has one: the name is looked up once, and noted once. `T0 Memory`.
+    /// Makes the places of a name's four rule keys, none of which has one: the name is noted once. `T0 Memory`.
     #[inline(always)]
     fn make_new_name<'a>(
         &mut self,
