@@ -1,9 +1,7 @@
 -- Where nothing is kept no key had a rule; else each of the four is looked up.
-use Rattle.std.proofs.Common.{Option, None, Some, option_copied, ap, sym, ◌∙◌}
+use Rattle.std.proofs.Common.{None, Some, option_copied, sym}
 use Rattle.mt_names.specs.declared.keys.RuleKey.{RuleKey}
-use Rattle.mt_names.specs.declared.keys.RuleTarget.{RuleTarget}
 use Rattle.mt_names.specs.declared.types.TabletType.TheVariants.{Primary, Replica, Rdonly}
-use Rattle.mt_model.specs.Topology.{rule_at}
 use Rattle.mt_moves.proofs.parts.kept_names.Goals as goal
 
 pub returns-then-keeps_nothing-clause-plain : goal.returns-then-keeps_nothing-clause-plain

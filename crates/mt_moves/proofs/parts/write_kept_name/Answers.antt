@@ -1,10 +1,9 @@
 -- Each key has its place, and the name's rules are written at once.
-use Rattle.std.proofs.Common.{ℕ, List, map, Option, None, Some, option_copied, ap, subst, sym, ◌∙◌}
+use Rattle.std.proofs.Common.{map, Option, None, Some, option_copied, ap, subst, sym, ◌∙◌}
 use Rattle.mt_names.specs.declared.keys.RuleKey.{RuleKey}
 use Rattle.mt_names.specs.declared.keys.RuleTarget.{RuleTarget}
 use Rattle.mt_names.specs.declared.types.TabletType.{TabletType}
 use Rattle.mt_names.specs.declared.types.TabletType.TheVariants.{Primary, Replica, Rdonly}
-use Rattle.mt_model.specs.declared.entries.Entry.{Entry}
 use Rattle.mt_model.specs.declared.entries.Entry.TheVariants as entry
 use Rattle.mt_model.specs.Part.{with_entries}
 use Rattle.mt_model.specs.Topology.{TopologyState, rule_at}
