@@ -1,5 +1,4 @@
 pub mod DifferLemmas
-pub mod DropLemmas
 pub mod EditLemmas
 pub mod GatherLemmas
 pub mod InvariantLemmas

@@ -1,4 +1,3 @@
-pub mod Drops
 pub mod Edits
 pub mod Keyspaces
 pub mod Load

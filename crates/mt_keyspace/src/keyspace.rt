@@ -9,7 +9,6 @@ ghost use Rattle.mt_model.specs.Limits.{most_tables_in_keyspace};
 ghost use Rattle.mt_model.specs.Part.{table_routes};
 ghost use Rattle.mt_model.specs.Topology.{is_marked, new_keyspace, with_table_mark, with_denied_mark, with_new_table, with_table_place, without_table_place, with_denied_place, without_denied_place};
 ghost use Rattle.mt_denied.specs.Denied.{done};
-ghost use Rattle.mt_keyspace.specs.Drops.{without_denial, without_table};
 ghost use Rattle.mt_keyspace.specs.Edits.{Edits, answer_of, new_table_refusal, lacks_table_place};
 ghost use Rattle.mt_keyspace.specs.Room.{has_mark_room, lacking_marks, lacks_mark_place, mark_place_refusal};
 ghost use Rattle.mt_model.specs.Documents.{array, marked, quoted, shard_texts, tables_in_order};
@@ -173,20 +172,6 @@ impl Keyspace {
         ensures { self.new ≡ without_denied_place table.now self.old }
     {
         self.denied.release(table);
-    }
-
-    /// Drops the place of a table, also where the table is there. It takes no memory.
-    pub(crate) fn drop_table(&mut self, table: &TableName)
-        ensures { self.new ≡ without_table table.now self.old }
-    {
-        self.tables.drop_place(table);
-    }
-
-    /// Drops the place of a denial, also where the table is denied. It takes no memory.
-    pub(crate) fn drop_denial(&mut self, table: &TableName)
-        ensures { self.new ≡ without_denial table.now self.old }
-    {
-        self.denied.drop_place(table);
     }
 
     /// How many tables are there.

@@ -9,7 +9,6 @@ ghost use Rattle.mt_model.specs.Limits.{most_keyspaces, most_tables_in_keyspace}
 ghost use Rattle.mt_model.specs.Part.{table_routes};
 ghost use Rattle.mt_model.specs.Topology.{holders, is_denied, is_present, keyspace_at, new_keyspace, sole_holder, with_denied_mark, with_denied_place, with_keyspace_state, with_new_table, with_table_mark, with_table_place, without_denied_place, without_table_place};
 ghost use Rattle.mt_denied.specs.Denied.{done};
-ghost use Rattle.mt_keyspace.specs.Drops.{without_denial, without_table};
 ghost use Rattle.mt_keyspace.specs.Edits.{Edits, add_keyspace_refusal, add_table_grows, add_table_refusal, answer_of, denied_place_grows, denied_place_refusal, table_place_grows, table_place_refusal};
 ghost use Rattle.mt_keyspace.specs.Keyspaces.{AreKeyspaces, held_there};
 ghost use Rattle.mt_keyspace.specs.Values.{IsDenialText, IsNamedKeyspace};
@@ -246,26 +245,6 @@ impl Keyspaces {
             return;
         };
         keyspace.release_denial(table);
-    }
-
-    /// Drops the place of a table in a keyspace, also where the table is there. It takes no memory.
-    pub fn drop_table(&mut self, keyspace: &KeyspaceName, table: &TableName)
-        ensures { self.new ≡ with_keyspace_state (without_table table.now) self.old keyspace.now }
-    {
-        let Some(keyspace) = self.places.get_mut(keyspace) else {
-            return;
-        };
-        keyspace.drop_table(table);
-    }
-
-    /// Drops the place of a table's denial at a keyspace, also where the table is denied. It takes no memory.
-    pub fn drop_denial(&mut self, keyspace: &KeyspaceName, table: &TableName)
-        ensures { self.new ≡ with_keyspace_state (without_denial table.now) self.old keyspace.now }
-    {
-        let Some(keyspace) = self.places.get_mut(keyspace) else {
-            return;
-        };
-        keyspace.drop_denial(table);
     }
 
     /// How many tables of all keyspaces are there. It takes no memory; it looks at each place.

@@ -20,7 +20,9 @@ use Rattle.mt_model.specs.declared.rows.Op.TheVariants.{Insert, Update, Append, 
 use Rattle.mt_model.specs.Limits.{longest_value}
 use Rattle.mt_model.specs.Part.{keys_of_name}
 use Rattle.mt_model.specs.Rows.{Row, RowValue, op_key, op_row}
-use Rattle.mt_model.specs.Topology.{KeyspaceState, Keyspaces, Marks, Rules, TopologyState, keyspace_at, new_keyspace, rule_at, with_keyspace_state, with_mark_place, with_new_table, with_rule, with_rule_place}
+use Rattle.mt_model.specs.Order.{key_before}
+use Rattle.mt_model.proofs.OrderLemmas.{each-put_by}
+use Rattle.mt_model.specs.Topology.{put_rule, KeyspaceState, Keyspaces, Marks, Rules, TopologyState, keyspace_at, new_keyspace, rule_at, with_keyspace_state, with_mark_place, with_new_table, with_rule, with_rule_place}
 use Rattle.mt_plain.specs.Events.{Event, write, read, add_keyspace, add_table, edit_rule, create, advance, begin_switch, begin_reverse, step, undo, cancel, complete, show, StreamName, Answer, done, row, advanced, shown, refused}
 use Rattle.mt_plain.specs.Next.{after_advance, all_fed, completed, created, live_stepped, live_undone, next, next_taken, on_way_of, row_left, with_advance, with_completed, with_live, with_tables, with_way_to, without_live, without_tables, types_and, types_without}
 use Rattle.mt_plain.specs.Plain.{Lane, Live, Plain, Write, cuts_of, each_once, in_lane, lane_of, in_keyspace, is_side, live_at, mover, number_of, opening, owner, rule_keys, twelve_keys}
@@ -177,8 +179,8 @@ with_rule-clean rules key None is to all = remove_entry-all CleanRule (same_key 
 with_rule-clean rules key (Some target) is to all =
     set_value-all CleanRule (same_key key) (with_rule_place rules key) (Some target) (λ e was. record { key = was.key; target = to }) (by (lookup (same_key key) rules))
   where
-    by : (o : Option (Option RuleTarget)) → AllByRecursion CleanRule (option_map_or (λ rule. rules) o (rules ++ (key, None) ∷ []))
-    by None = append-all CleanRule rules ((key, None) ∷ []) all (record { key = is; target = tt }, tt)
+    by : (o : Option (Option RuleTarget)) → AllByRecursion CleanRule (option_map_or (λ rule. rules) o (put_rule rules (key, None)))
+    by None = each-put_by key_before CleanRule rules (key, None) (record { key = is; target = tt }) all
     by (Some rule) = all
 
 -- without the places of some keys, or of some tables

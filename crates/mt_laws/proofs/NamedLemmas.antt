@@ -13,7 +13,9 @@ use Rattle.mt_names.specs.Same.{same_key}
 use Rattle.mt_names.proofs.SameLemmas.{same_key_decides}
 use Rattle.mt_model.specs.declared.entries.EntryKey.TheVariants as about
 use Rattle.mt_model.specs.Part.{keys_of_name}
-use Rattle.mt_model.specs.Topology.{Rules, TopologyState, rule_at, with_rule, with_rule_place}
+use Rattle.mt_model.specs.Order.{key_before}
+use Rattle.mt_model.proofs.OrderLemmas.{each-put_by}
+use Rattle.mt_model.specs.Topology.{put_rule, Rules, TopologyState, rule_at, with_rule, with_rule_place}
 use Rattle.mt_plain.specs.Answers.{after}
 use Rattle.mt_plain.specs.Events.{Event, add_keyspace, add_table, edit_rule, advance, complete, Answer, done, row, advanced, shown, refused}
 use Rattle.mt_plain.specs.Next.{next, next_taken, with_completed}
@@ -44,8 +46,8 @@ named-with_rule rules key None is all = remove_entry-all IsNamed (same_key key) 
 named-with_rule rules key (Some target) is all =
     set_value-all IsNamed (same_key key) (with_rule_place rules key) (Some target) (λ e was. was) (by (lookup (same_key key) rules))
   where
-    by : (o : Option (Option RuleTarget)) → AreNamed (option_map_or (λ rule. rules) o (rules ++ (key, None) ∷ []))
-    by None = append-all IsNamed rules ((key, None) ∷ []) all (is, tt)
+    by : (o : Option (Option RuleTarget)) → AreNamed (option_map_or (λ rule. rules) o (put_rule rules (key, None)))
+    by None = each-put_by key_before IsNamed rules (key, None) is all
     by (Some rule) = all
 
 -- a key that is found is one of the list

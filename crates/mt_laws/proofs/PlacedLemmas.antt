@@ -17,6 +17,7 @@ use Rattle.mt_plain.specs.Answers.{Answers}
 use Rattle.mt_plain.specs.Events.{Event, add_keyspace, add_table, edit_rule, advance, complete, Answer, done, row, advanced, shown, refused}
 use Rattle.mt_plain.specs.Next.{completed, next, next_taken, with_completed, with_tables, without_tables}
 use Rattle.mt_plain.specs.Plain.{Live, Plain, live_at, rule_keys}
+use Rattle.mt_model.specs.Order.{key_before, put_by}
 use Rattle.mt_laws.specs.Places.{HasOnlyWhatStands}
 use Rattle.mt_laws.specs.WayBack.{IsReached}
 use Rattle.mt_laws.proofs.ListLemmas.{OfSome, append-all, each-all, fold-holds, lookup-of, option_map_or-of, remove_entry-all, set_value-all}
@@ -46,6 +47,28 @@ module _ {K V : Type 0} (same : K → K → Bool) (decides : DecidesEquality sam
       by None none = pushed-all es none all
       by (Some old) some = set_value-all OfValue (same k) es v (λ e is. new) all
 
+-- the same of a place that is put in an order
+module _ {K V : Type 0} (same : K → K → Bool) (decides : DecidesEquality same) (before : K → K → Bool) (Q : V → Type 0) (k : K) (blank v : V) (new : Q v) where
+  abbrev OfPut : K × V → Type 0
+  OfPut e = Q e.1
+
+  put-all : (es : List (K × V)) → lookup (same k) es ≡ None → AllByRecursion OfPut es → AllByRecursion OfPut (set_value (same k) (put_by before es (k, blank)) v)
+  put-all [] none all = rw (same_itself same decides k) (new, tt)
+  put-all (e ∷ es) none all = by (put-all es) (same k e.0) refl (before k e.0) refl
+    where
+      by : (lookup (same k) es ≡ None → AllByRecursion OfPut es → AllByRecursion OfPut (set_value (same k) (put_by before es (k, blank)) v)) → (t : Bool) → same k e.0 ≡ t
+          → (b : Bool) → before k e.0 ≡ b → AllByRecursion OfPut (set_value (same k) (put_by before (e ∷ es) (k, blank)) v)
+      by again true t b u = let h : Some e.1 ≡ None = rw t at none in absurd cc
+      by again false t true u = rw (u, same_itself same decides k) (new, all)
+      by again false t false u = rw (u, t) (all.0, again (rw t at none) all.1)
+
+  put_placed-all : (es : List (K × V)) → AllByRecursion OfPut es → AllByRecursion OfPut (set_value (same k) (option_map_or (λ old. es) (lookup (same k) es) (put_by before es (k, blank))) v)
+  put_placed-all es all = by (lookup (same k) es) refl
+    where
+      by : (o : Option V) → lookup (same k) es ≡ o → AllByRecursion OfPut (set_value (same k) (option_map_or (λ old. es) o (put_by before es (k, blank))) v)
+      by None none = put-all es none all
+      by (Some old) some = set_value-all OfPut (same k) es v (λ e is. new) all
+
 -- ---- places that hold something
 
 abbrev IsRule : Option RuleTarget → Type 0
@@ -64,7 +87,7 @@ record AreHeld (t : TopologyState) : Type 0 where
 
 with_rule-held : (rules : Rules) (key : RuleKey) (target : Option RuleTarget) → AllByRecursion (λ rule. IsRule rule.1) rules → AllByRecursion (λ rule. IsRule rule.1) (with_rule rules key target)
 with_rule-held rules key None all = remove_entry-all (λ rule. IsRule rule.1) (same_key key) rules all
-with_rule-held rules key (Some target) all = placed-all same_key same_key_decides IsRule key None (Some target) refl rules all
+with_rule-held rules key (Some target) all = put_placed-all same_key same_key_decides key_before IsRule key None (Some target) refl rules all
 
 new_table-held : (table : List ℕ) (state : KeyspaceState) → IsHeld state → IsHeld (with_new_table table state)
 new_table-held table state held = record { tables = placed-all same_text same_text_decides IsMark table false true refl state.tables held.tables; denied = held.denied }

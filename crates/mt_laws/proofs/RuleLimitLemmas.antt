@@ -1,5 +1,5 @@
 -- In each state that a run reaches there are no more rule entries than the limit, those of live workflows among them.
-use Rattle.std.proofs.Common.{◌≡◌, ◌≢◌, ℕ, ◌+◌, ◌≤◌, Bool, true, false, not, cond, List, [], ◌∷◌, ◌++◌, map, filter, length, Option, None, Some, is_some, refl, sym, ap, ◌∙◌, subst, arith, leb, ltb, ltb-false, length-append}
+use Rattle.std.proofs.Common.{◌≡◌, ◌≢◌, ℕ, suc, ◌+◌, ◌≤◌, Bool, true, false, not, cond, List, [], ◌∷◌, ◌++◌, map, filter, length, Option, None, Some, is_some, refl, sym, ap, ◌∙◌, subst, arith, leb, ltb, ltb-false}
 use Rattle.std.proofs.lemmas.Bool.{leb-false, true≢false}
 use Rattle.std.proofs.lemmas.List.Sums.{sum_by_from, sum_by_push}
 use Rattle.std.proofs.lemmas.Map.{length-set_value}
@@ -10,11 +10,13 @@ use Rattle.mt_names.specs.declared.keys.RuleKey.{RuleKey}
 use Rattle.mt_names.specs.declared.keys.RuleTarget.{RuleTarget}
 use Rattle.mt_names.specs.Names.{same_text}
 use Rattle.mt_names.specs.Same.{same_key}
-use Rattle.mt_names.proofs.EntryLemmas.{lookup-push_elsewhere, lookup-remove_entry_elsewhere, lookup-set_value_elsewhere, same_itself}
+use Rattle.mt_names.proofs.EntryLemmas.{lookup-remove_entry_elsewhere, lookup-set_value_elsewhere, same_itself}
 use Rattle.mt_names.proofs.SameLemmas.{same_key_decides, same_text_decides}
 use Rattle.mt_model.specs.declared.entries.EntryKey.TheVariants as about
 use Rattle.mt_model.specs.Limits.{most_rules, most_tables_in_keyspace}
-use Rattle.mt_model.specs.Topology.{Rules, with_rule, with_rule_place}
+use Rattle.mt_model.specs.Order.{key_before}
+use Rattle.mt_model.proofs.OrderLemmas.{length-put_by, lookup-put_by_elsewhere}
+use Rattle.mt_model.specs.Topology.{Rules, put_rule, with_rule, with_rule_place}
 use Rattle.mt_plain.specs.Events.{Event, edit_rule, create, advance, begin_switch, begin_reverse, step, undo, cancel, complete, StreamName, done, advanced, full, rule_owned}
 use Rattle.mt_plain.specs.Next.{next_taken, with_advance, with_completed}
 use Rattle.mt_plain.specs.Plain.{Live, Plain, each_once, has_part, live_at, part_owner, rule_keys, twelve_keys}
@@ -80,15 +82,15 @@ edit-elsewhere rules key other None differ = lookup-remove_entry_elsewhere same_
 edit-elsewhere rules key other (Some target) differ =
     lookup-set_value_elsewhere same_key same_key_decides (with_rule_place rules key) key other (Some target) differ ∙ by (lookup (same_key key) rules)
   where
-    by : (o : Option (Option RuleTarget)) → lookup (same_key other) (option_map_or (λ rule. rules) o (rules ++ (key, None) ∷ [])) ≡ lookup (same_key other) rules
-    by None = lookup-push_elsewhere same_key same_key_decides rules key other None differ
+    by : (o : Option (Option RuleTarget)) → lookup (same_key other) (option_map_or (λ rule. rules) o (put_rule rules (key, None))) ≡ lookup (same_key other) rules
+    by None = lookup-put_by_elsewhere key_before same_key same_key_decides rules key other None differ
     by (Some rule) = refl
 
 edit-length : (rules : Rules) (key : RuleKey) (target : RuleTarget) → length (with_rule rules key (Some target)) ≡ length rules + cond (is_some (lookup (same_key key) rules)) 0 1
 edit-length rules key target = length-set_value (same_key key) (with_rule_place rules key) (Some target) ∙ by (lookup (same_key key) rules)
   where
-    by : (o : Option (Option RuleTarget)) → length (option_map_or (λ rule. rules) o (rules ++ (key, None) ∷ [])) ≡ length rules + cond (is_some o) 0 1
-    by None = length-append rules ((key, None) ∷ [])
+    by : (o : Option (Option RuleTarget)) → length (option_map_or (λ rule. rules) o (put_rule rules (key, None))) ≡ length rules + cond (is_some o) 0 1
+    by None = let is : length (put_rule rules (key, None)) ≡ suc (length rules) = length-put_by key_before rules (key, None) in omega (arith, is)
     by (Some rule) = omega arith
 
 module _ (p : Plain) (key : RuleKey) (target : Option RuleTarget) (none : refusal_of p (edit_rule key target) ≡ None) (fits : RulesFit p) where

@@ -9,7 +9,7 @@ use Rattle.mt_model.specs.declared.rows.Op.{Op}
 use Rattle.mt_model.specs.declared.rows.Op.TheVariants.{Insert, Update, Append, Delete}
 use Rattle.mt_model.specs.Limits.{longest_value}
 use Rattle.mt_model.specs.Rows.{RowValue}
-use Rattle.mt_plain.specs.Script.{Command, keyspace, table, rule, change, get, change_at, get_at, create, advance, begin_switch, begin_reverse, step, undo, switch, reverse, cancel, complete, show, rules, dump, Line, silent, command, bad_line, line_too_long, MAX_LINE_LENGTH, change_of, command_of, commanded, four_words, is_blank, is_for_reads, is_qualified, is_readable, is_row_verb, is_silent, is_visible, is_word, no_word, one_word, op_of, read_advance, read_at, read_command, read_get, read_line_by, read_number, read_row_command, read_small_number, read_new_keyspace, read_ranged_stream, read_stream, read_value, read_workflow_command, three_words, two_words, with_number, with_types, with_value, without_value, words_of}
+use Rattle.mt_plain.specs.Script.{Command, keyspace, table, rule, change, get, change_at, get_at, create, advance, begin_switch, begin_reverse, step, undo, switch, reverse, cancel, complete, show, rules, dump, Line, silent, command, bad_line, line_too_long, MAX_LINE_LENGTH, change_of, command_of, commanded, four_words, is_blank, is_for_reads, is_qualified, is_readable, is_row_verb, is_silent, is_visible, is_word, no_word, one_word, op_of, read_advance, read_at, read_command, read_get, read_line_by, read_number, read_row_command, read_small_number, read_new_keyspace, read_ranged_stream, read_value, read_workflow_command, three_words, two_words, with_number, with_types, with_value, without_value, words_of}
 use Rattle.mt_laws.specs.Lines.{KnowsSome}
 use Rattle.mt_laws.proofs.CleanLemmas.{CleanOp, CleanValue}
 use Rattle.mt_laws.proofs.ListLemmas.{OfSome, cond-either, cond-holds, filter-all, option_and_then-of, option_map-of}

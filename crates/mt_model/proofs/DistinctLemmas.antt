@@ -11,6 +11,8 @@ use Rattle.mt_names.specs.Names.{same_text}
 use Rattle.mt_names.specs.Same.{same_key}
 use Rattle.mt_names.proofs.EntryLemmas.{IsDistinct-set_value, IsDistinct-push, IsDistinct-remove_entry}
 use Rattle.mt_names.proofs.SameLemmas.{same_key_decides, same_text_decides}
+use Rattle.mt_model.specs.Order.{key_before}
+use Rattle.mt_model.proofs.OrderLemmas.{IsDistinct-put_placed}
 use Rattle.mt_model.specs.declared.entries.Entry.{Entry}
 use Rattle.mt_model.specs.declared.entries.Entry.TheVariants as entry
 use Rattle.mt_names.specs.Shards.{Cuts}
@@ -29,7 +31,7 @@ module _ {K V : Type 0} (same : K → K → Bool) (decides : (a b : K) → Decid
       by (Some old) some = distinct
 
 pub distinct-with_rule_place : (rules : Rules) (key : RuleKey) → IsDistinct same_key (keys_of rules) → IsDistinct same_key (keys_of (with_rule_place rules key))
-distinct-with_rule_place rules key = distinct-place same_key same_key_decides rules key None
+distinct-with_rule_place rules key = IsDistinct-put_placed key_before same_key same_key_decides None rules key
 
 pub distinct-without_rule_place : (rules : Rules) (key : RuleKey) → IsDistinct same_key (keys_of rules) → IsDistinct same_key (keys_of (without_rule_place rules key))
 distinct-without_rule_place rules key distinct = by (rule_at rules key)

@@ -12,12 +12,14 @@ use Rattle.mt_names.specs.Names.{same_text}
 use Rattle.mt_names.specs.Same.{same_key}
 use Rattle.mt_names.proofs.EntryLemmas.{is_some-set_value, none_from, other_from, remove_entry-push, some_from}
 use Rattle.mt_names.proofs.SameLemmas.{same_key_decides, same_text_decides}
+use Rattle.mt_model.specs.Order.{key_before}
+use Rattle.mt_model.proofs.OrderLemmas.{put_placed-stays, remove_entry-put_by}
 use Rattle.mt_model.specs.declared.entries.Entry.{Entry}
 use Rattle.mt_model.specs.declared.entries.Entry.TheVariants as entry
 use Rattle.mt_model.specs.declared.entries.EntryKey.{EntryKey}
 use Rattle.mt_model.specs.declared.entries.EntryKey.TheVariants as about
 use Rattle.mt_model.specs.Part.{IsSameTopology, befores, with_entries, with_place, with_places, without_place, without_places}
-use Rattle.mt_model.specs.Topology.{TopologyState, HasDistinctPlaces, Keyspaces, KeyspaceState, Marks, Rules, key_of, value_of, has_place, holders, is_marked, rule_at, rule_for, resolution, unruled, sole_holder, for_type, for_all_types, keyspace_at, cuts_at, with_entry, with_keyspace_state, with_table_mark, with_denied_mark, with_mark_place, without_mark_place, with_rule_place, without_rule_place, with_table_place, without_table_place, with_denied_place, without_denied_place}
+use Rattle.mt_model.specs.Topology.{TopologyState, HasDistinctPlaces, Keyspaces, KeyspaceState, Marks, Rules, put_rule, key_of, value_of, has_place, holders, is_marked, rule_at, rule_for, resolution, unruled, sole_holder, for_type, for_all_types, keyspace_at, cuts_at, with_entry, with_keyspace_state, with_table_mark, with_denied_mark, with_mark_place, without_mark_place, with_rule_place, without_rule_place, with_table_place, without_table_place, with_denied_place, without_denied_place}
 use Rattle.mt_model.proofs.DistinctLemmas.{distinct-rules, distinct-with_rule_place, distinct-without_rule_place, distinct-table_made, distinct-table_dropped, distinct-denial_made, distinct-denial_dropped}
 use Rattle.mt_model.proofs.TopologyLemmas.{keyspace_at-changed_here, keyspace_at-changed_elsewhere, found_at, is_marked-with_mark_place, is_marked-without_mark_place, read_at-unchanged, rule_at-with_rule_place, rule_at-without_rule_place, tables_distinct, denied_distinct, value_of-keyspace_changed, value_of-rules_changed, with_entry-back, with_keyspace_state-back, with_mark_place-there, with_rule_place-there}
 
@@ -101,7 +103,7 @@ read_at-kept read change keyspaces name other keeps there = by (same_text name o
         (ap (λ s. option_map_or read s false) (keyspace_at-changed_here change keyspaces name found.0 (ap (keyspace_at keyspaces) e ∙ found.1)) ∙ keeps found.0 found.2)
 
 pub has_place-kept : (t : TopologyState) (key k : EntryKey) → has_place t k ≡ true → has_place (with_place t key) k ≡ true
-has_place-kept t (about.Rule key) (about.Rule other) there = place-placed same_key None t.rules key other there
+has_place-kept t (about.Rule key) (about.Rule other) there = put_placed-stays key_before same_key same_key_decides None t.rules key other there
 has_place-kept t (about.Rule key) (about.Denied keyspace table) there = there
 has_place-kept t (about.Rule key) (about.Present keyspace table) there = there
 has_place-kept t (about.Denied keyspace table) (about.Rule other) there = there
@@ -288,8 +290,8 @@ rules_back rules key lacks =
     let none = none_from (lookup (same_key key) rules) lacks in
     let unruled_here : rule_at (with_rule_place rules key) key ≡ None = rule_at-with_rule_place rules key key ∙ ap (λ r. unwrap_or r None) none in
     ap (λ r. option_map_or (λ target. with_rule_place rules key) r (remove_entry (same_key key) (with_rule_place rules key))) unruled_here
-    ∙ ap (λ r. remove_entry (same_key key) (option_map_or (λ rule. rules) r (rules ++ (key, None) ∷ []))) none
-    ∙ remove_entry-push same_key same_key_decides rules key None none
+    ∙ ap (λ r. remove_entry (same_key key) (option_map_or (λ rule. rules) r (put_rule rules (key, None)))) none
+    ∙ remove_entry-put_by key_before same_key same_key_decides rules key None none
 
 -- of one keyspace, or of none
 keyspace_back : (change back : KeyspaceState → KeyspaceState) (keyspaces : Keyspaces) (name : List ℕ) → ((state : KeyspaceState) → keyspace_at keyspaces name ≡ Some state → back (change state) ≡ state) → with_keyspace_state back (with_keyspace_state change keyspaces name) name ≡ keyspaces

@@ -12,6 +12,8 @@ use Rattle.mt_names.specs.declared.keys.RuleKey.{RuleKey}
 use Rattle.mt_names.specs.declared.keys.RuleTarget.{RuleTarget}
 use Rattle.mt_names.proofs.SameLemmas.{same_key_decides, same_text_decides}
 use Rattle.mt_names.proofs.EntryLemmas.{other_from, some_from, lookup-set_value_here, lookup-set_value_elsewhere, set_value-back, lookup-push_here, lookup-remove_entry_here, lookup-remove_entry_elsewhere}
+use Rattle.mt_model.specs.Order.{key_before}
+use Rattle.mt_model.proofs.OrderLemmas.{at-put_placed, put_placed-there}
 use Rattle.mt_model.specs.declared.entries.Entry.{Entry}
 use Rattle.mt_model.specs.declared.entries.Entry.TheVariants as entry
 use Rattle.mt_model.specs.declared.entries.EntryKey.{EntryKey}
@@ -89,11 +91,11 @@ pub rule_at-set_back : (rules : Rules) (key : RuleKey) (target : Option RuleTarg
 rule_at-set_back = at-set_back same_key same_key_decides None
 
 pub rule_at-with_rule_place : (rules : Rules) (key other : RuleKey) → rule_at (with_rule_place rules key) other ≡ rule_at rules other
-rule_at-with_rule_place = at-placed same_key same_key_decides None
+rule_at-with_rule_place = at-put_placed key_before same_key same_key_decides None
 
 -- the place that is made is there
 pub with_rule_place-there : (rules : Rules) (key : RuleKey) → is_some (lookup (same_key key) (with_rule_place rules key)) ≡ true
-with_rule_place-there = placed-there same_key same_key_decides None
+with_rule_place-there = put_placed-there key_before same_key same_key_decides None
 
 pub rule_at-without_rule_place : (rules : Rules) (key other : RuleKey) → IsDistinct same_key (keys_of rules) → rule_at (without_rule_place rules key) other ≡ rule_at rules other
 rule_at-without_rule_place rules key other distinct = by (rule_at rules key) refl

@@ -1,21 +1,16 @@
 -- The written forms of the rules and of a topology: JSON, compact and sorted (this profile's own; Vitess prints routing rules
 -- as JSON objects of from_table and to_tables).
-use Rattle.std.specs.Prelude.{ℕ, Bool, true, false, ◌==◌, nat_lt, if◌then◌else◌, cond, List, [], ◌∷◌, ◌++◌, codes, flat_map, fold, map, Option, None, Some}
+use Rattle.std.specs.Prelude.{ℕ, if◌then◌else◌, cond, List, [], ◌∷◌, ◌++◌, codes, flat_map, fold, map, Option, None, Some}
 use Rattle.std.specs.List.{join_with_byte}
 use Rattle.mt_names.specs.declared.keys.RuleKey.{RuleKey}
 use Rattle.mt_names.specs.declared.keys.RuleTarget.{RuleTarget}
 use Rattle.mt_names.specs.Keys.{key_text, target_text}
 use Rattle.mt_names.specs.Shards.{range_text, ranges_of}
 use Rattle.mt_names.specs.Types.{comma}
+pub use Rattle.mt_model.specs.Order.{comes_before}
 use Rattle.mt_model.specs.Topology.{KeyspaceState, Marks, Rules, TopologyState}
 
 -- ---- texts in the order of their bytes
-
--- whether a text comes before another
-abbrev pub comes_before : List ℕ → List ℕ → Bool
-comes_before bytes [] = false
-comes_before [] (b ∷ bs) = true
-comes_before (a ∷ as') (b ∷ bs) = if a == b then comes_before as' bs else nat_lt a b
 
 -- a pair of a text and what it stands for, put in its place by the text
 abbrev pub put_by_text : {A : Type 0} → List (List ℕ × A) → List ℕ × A → List (List ℕ × A)

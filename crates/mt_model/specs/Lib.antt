@@ -1,4 +1,5 @@
 pub mod Documents
+pub mod Order
 pub mod Faults
 pub mod Limits
 pub mod Notices

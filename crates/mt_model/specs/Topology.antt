@@ -9,6 +9,7 @@ use Rattle.mt_names.specs.declared.types.TabletType.{TabletType}
 use Rattle.mt_names.specs.Names.{same_text}
 use Rattle.mt_names.specs.Same.{same_key}
 use Rattle.mt_names.specs.Shards.{Cuts}
+use Rattle.mt_model.specs.Order.{key_before, put_by}
 use Rattle.mt_model.specs.declared.entries.Entry.{Entry}
 use Rattle.mt_model.specs.declared.entries.Entry.TheVariants as entry
 use Rattle.mt_model.specs.declared.entries.EntryKey.{EntryKey}
@@ -28,7 +29,7 @@ key_of (entry.Present keyspace table is_present) = about.Present keyspace table
 abbrev pub Marks : Type 0
 Marks = List (List ℕ × Bool)
 
--- places for rule keys, each with a rule or none ("Routing Rules": from-table and to-table)
+-- places for rule keys in the order of these, each with a rule or none ("Routing Rules": from-table and to-table)
 abbrev pub Rules : Type 0
 Rules = List (RuleKey × Option RuleTarget)
 
@@ -120,9 +121,13 @@ has_place t (about.Present keyspace table) = option_map_or (λ state. is_some (l
 abbrev pub with_mark_place : Marks → List ℕ → Marks
 with_mark_place marks name = option_map_or (λ mark. marks) (lookup (same_text name) marks) (marks ++ (name, false) ∷ [])
 
--- a place for a rule key at the end, unless it has one (this profile's own)
+-- a key with its rule or none, put in the order of the keys (this profile's own)
+abbrev pub put_rule : Rules → RuleKey × Option RuleTarget → Rules
+put_rule rules r = put_by key_before rules r
+
+-- a place for a rule key, without a rule, unless it has one (this profile's own)
 abbrev pub with_rule_place : Rules → RuleKey → Rules
-with_rule_place rules key = option_map_or (λ rule. rules) (lookup (same_key key) rules) (rules ++ (key, None) ∷ [])
+with_rule_place rules key = option_map_or (λ rule. rules) (lookup (same_key key) rules) (put_rule rules (key, None))
 
 -- without the place of the name, if that is there and unmarked (this profile's own)
 abbrev pub without_mark_place : Marks → List ℕ → Marks

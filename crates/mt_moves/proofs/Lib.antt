@@ -1,6 +1,5 @@
 pub mod BeginLemmas
 pub mod BetweenLemmas
-pub mod CancelLemmas
 pub mod ChangeLemmas
 pub mod CreateLemmas
 pub mod EndLemmas

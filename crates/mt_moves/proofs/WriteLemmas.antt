@@ -9,8 +9,6 @@ use Rattle.std.specs.Result.{is_err}
 use Rattle.mt_model.specs.declared.entries.Entry.{Entry}
 use Rattle.mt_model.specs.declared.entries.EntryKey.{EntryKey}
 use Rattle.mt_model.specs.declared.entries.EntryKey.TheVariants as about
-use Rattle.mt_names.specs.declared.keys.RuleKey.{RuleKey}
-use Rattle.mt_names.specs.declared.types.TabletType.TheVariants.{Primary, Replica, Rdonly}
 use Rattle.mt_names.specs.Types.{no_types}
 use Rattle.mt_model.specs.Part.{keys_of_name, part_keys, table_part_keys, with_entries}
 use Rattle.mt_model.specs.Topology.{TopologyState, has_place, with_entry}
@@ -91,20 +89,6 @@ table_whole f t a b c u source target at to table is_source is_target alone with
     let by_source = with_source ∙ ap (λ s. with_entries a (map f (names (Some s) table))) is_source ∙ ap (λ x. with_entries x (map f (names (Some source) table))) alone in
     let by_target = with_target ∙ ap (λ g. with_entries b (map f (names (Some g) table))) is_target ∙ ap (λ x. with_entries x (map f (names (Some target) table))) by_source in
     marks ∙ ap (λ x. with_entries x (map f (mark_keys source target table))) by_target
-
--- ---- one name
-
--- the rules of a name's four keys, of which one is made
-pub name_whole : (f : EntryKey → Entry) (t a b c u : TopologyState) (key : RuleKey) (keyspace : Option (List ℕ)) (table : List ℕ) → key ≡ record { keyspace = keyspace; table = table; tablet_type = None }
-    → a ≡ with_entry t (f (about.Rule key)) → b ≡ with_entry a (f (about.Rule (record key { tablet_type = Some Primary })))
-    → c ≡ with_entry b (f (about.Rule (record key { tablet_type = Some Replica }))) → u ≡ with_entry c (f (about.Rule (record key { tablet_type = Some Rdonly })))
-    → u ≡ with_entries t (map f (names keyspace table))
-name_whole f t a b c u key keyspace table is plain primary replica rdonly =
-    let primary_key : RuleKey → EntryKey = λ k. about.Rule (record k { tablet_type = Some Primary }) in
-    let replica_key : RuleKey → EntryKey = λ k. about.Rule (record k { tablet_type = Some Replica }) in
-    let rdonly_key : RuleKey → EntryKey = λ k. about.Rule (record k { tablet_type = Some Rdonly }) in
-    rdonly ∙ ap (λ x. with_entry x (f (rdonly_key key))) (replica ∙ ap (λ x. with_entry x (f (replica_key key))) (primary ∙ ap (λ x. with_entry x (f (primary_key key))) plain))
-    ∙ ap (λ k. with_entries t (f (about.Rule k) ∷ f (primary_key k) ∷ f (replica_key k) ∷ f (rdonly_key k) ∷ [])) is
 
 -- ---- a change
 

@@ -34,16 +34,11 @@ fn cancel_refusal(workflow: &Workflow) -> Option<Reason>
     None
 }
 
-/// Writes back what the workflow keeps over its part, whose places that then hold nothing it drops. Where nothing is kept all of them
-/// go at once.
+/// Writes back what the workflow keeps over its part, whose places that then hold nothing it drops.
 fn give_back_part(topology: &mut Topology, workflow: &Workflow)
     requires { All (λ key. has_place topology.old key ≡ true) (keys_of_part (live_of workflow.now)) }
     ensures { topology.new ≡ without_places (with_entries topology.old (kept_entries workflow.now.kept (live_of workflow.now))) (keys_of_part (live_of workflow.now)) }
 {
-    if workflow.keeps_nothing() {
-        topology.clear_part(workflow.source(), workflow.target(), workflow.tables());
-        return;
-    }
     write_kept(topology, workflow);
     topology.release_part(workflow.source(), workflow.target(), workflow.tables());
 }

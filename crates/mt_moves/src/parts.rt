@@ -1,9 +1,11 @@
 //! The part of a workflow: what is written over it.
-ghost use Rattle.std.specs.Prelude.{◌≡◌, true, All, map, option_copied};
+ghost use Rattle.std.specs.Prelude.{◌≡◌, true, All, None, Some, map, option_copied};
+ghost use Rattle.mt_names.specs.declared.types.TabletType.{TabletType};
 ghost use Rattle.mt_names.specs.Types.{no_types};
 ghost use Rattle.mt_model.specs.declared.entries.EntryKey.{EntryKey};
 ghost use Rattle.mt_model.specs.Part.{keys_of_name, table_part_keys, with_entries};
-ghost use Rattle.mt_model.specs.Topology.{has_place, value_of, with_entry};
+ghost use Rattle.mt_model.specs.Topology.{has_place, rule_at, value_of};
+ghost use Rattle.mt_rules.specs.Rules.{lent_rule};
 ghost use Rattle.mt_workflow.specs.Workflows.{live_of, wanted};
 ghost use Rattle.mt_stands.specs.Keys.{kept_entries, keys_of_part, part_entries, rules_only};
 ghost use Rattle.mt_moves.specs.Parts.{HasPlaces, mark_entries, mark_keys};
@@ -103,7 +105,7 @@ fn write_kept_table(topology: &mut Topology, workflow: &Workflow, table: &TableN
     write_marks(topology, workflow, table, (false, false), false);
 }
 
-/// Writes the rules of a name's four keys as they were before Create. One key is made, whose type then changes.
+/// Writes the rules of a name's four keys as they were before Create. The name is looked up once.
 fn write_kept_name(
     topology: &mut Topology,
     workflow: &Workflow,
@@ -113,21 +115,44 @@ fn write_kept_name(
     requires { HasPlaces topology.old (map EntryKey.Rule (keys_of_name (option_copied keyspace) table.now)) }
     ensures { topology.new ≡ with_entries topology.old (map (value_of (rules_only workflow.now.kept)) (map EntryKey.Rule (keys_of_name (option_copied keyspace.entry) table.now))) }
 {
-    let mut key = key_of_name(keyspace, table, None);
-    write_kept_rule(topology, workflow, &key);
-    key.tablet_type = Some(TabletType::Primary);
-    write_kept_rule(topology, workflow, &key);
-    key.tablet_type = Some(TabletType::Replica);
-    write_kept_rule(topology, workflow, &key);
-    key.tablet_type = Some(TabletType::Rdonly);
-    write_kept_rule(topology, workflow, &key);
+    let name = key_of_name(keyspace, table, None);
+    let kept = kept_names(workflow, keyspace, table);
+    topology.put_name(&name, kept.0, kept.1, kept.2, kept.3);
 }
 
-/// Writes the rule of a key as it was before Create.
-fn write_kept_rule(topology: &mut Topology, workflow: &Workflow, key: &RuleKey)
-    requires { has_place topology.old (EntryKey.Rule key.now) ≡ true }
-    ensures { topology.new ≡ with_entry topology.old (value_of (rules_only workflow.now.kept) (EntryKey.Rule key.now)) }
+/// A rule by the names of where it leads, or none.
+type Lent<'a> = Option<(&'a KeyspaceName, &'a TableName)>;
+
+/// The rules of a name's four keys before Create: that for all types, those of primary, replica and rdonly. Where nothing is kept none
+/// is looked up; else one key is made, whose type then changes.
+fn kept_names<'a>(
+    workflow: &'a Workflow,
+    keyspace: Option<&KeyspaceName>,
+    table: &TableName,
+) -> (Lent<'a>, Lent<'a>, Lent<'a>, Lent<'a>)
+    ensures plain { lent_rule result.0 ≡ rule_at workflow.now.kept (record { keyspace = option_copied keyspace.entry; table = table.now; tablet_type = None }) }
+    ensures primary { lent_rule result.1 ≡ rule_at workflow.now.kept (record { keyspace = option_copied keyspace.entry; table = table.now; tablet_type = Some TabletType.Primary }) }
+    ensures replica { lent_rule result.2 ≡ rule_at workflow.now.kept (record { keyspace = option_copied keyspace.entry; table = table.now; tablet_type = Some TabletType.Replica }) }
+    ensures rdonly { lent_rule result.3 ≡ rule_at workflow.now.kept (record { keyspace = option_copied keyspace.entry; table = table.now; tablet_type = Some TabletType.Rdonly }) }
 {
-    let rule = workflow.kept(key);
-    topology.put_rule(key, rule.map(|rule| (&rule.keyspace, &rule.table)));
+    if workflow.keeps_nothing() {
+        return (None, None, None, None);
+    }
+    let mut key = key_of_name(keyspace, table, None);
+    let plain = kept_rule(workflow, &key);
+    key.tablet_type = Some(TabletType::Primary);
+    let primary = kept_rule(workflow, &key);
+    key.tablet_type = Some(TabletType::Replica);
+    let replica = kept_rule(workflow, &key);
+    key.tablet_type = Some(TabletType::Rdonly);
+    let rdonly = kept_rule(workflow, &key);
+    (plain, primary, replica, rdonly)
+}
+
+/// The rule of a key before Create.
+fn kept_rule<'a>(workflow: &'a Workflow, key: &RuleKey) -> Lent<'a>
+    ensures { lent_rule result ≡ rule_at workflow.now.kept key.now }
+{
+    let rule = workflow.kept(key)?;
+    Some((&rule.keyspace, &rule.table))
 }

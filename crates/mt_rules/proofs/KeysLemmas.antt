@@ -1,12 +1,13 @@
 -- Keys that differ.
-use Rattle.std.proofs.Common.{◌≡◌, Bool, true, false, List, [], ◌∷◌, ◌++◌, None, refl, sym, ◌∙◌}
+use Rattle.std.proofs.Common.{◌≡◌, Bool, true, false, List, [], ◌∷◌, None, refl, sym, ◌∙◌}
 use Rattle.std.proofs.lemmas.Bool.{true≢false}
 use Rattle.std.specs.Bool.{Decides}
 use Rattle.std.specs.List.{AllByRecursion}
 use Rattle.std.specs.Map.{lookup}
 use Rattle.mt_names.specs.declared.keys.RuleKey.{RuleKey}
 use Rattle.mt_names.specs.Same.{same_key}
-use Rattle.mt_names.proofs.EntryLemmas.{lookup-push_elsewhere}
+use Rattle.mt_model.specs.Order.{put_by}
+use Rattle.mt_model.proofs.OrderLemmas.{lookup-put_by_elsewhere}
 use Rattle.mt_names.proofs.SameLemmas.{same_key_decides}
 
 -- two tests that follow from one another
@@ -23,12 +24,12 @@ pub none_yet : {K : Type 0} (V : Type 0) (same : K → K → Bool) (keys : List 
 none_yet V same [] = tt
 none_yet V same (k ∷ keys) = (refl, none_yet V same keys)
 
-module _ {K V : Type 0} (same : K → K → Bool) (decides : (a b : K) → Decides (same a b) (a ≡ b)) where
-  -- with an entry more, at a key that is none of these
+module _ {K V : Type 0} (before : K → K → Bool) (same : K → K → Bool) (decides : (a b : K) → Decides (same a b) (a ≡ b)) where
+  -- with an entry put, at a key that is none of these
   pub still_none : (es : List (K × V)) (n : K) (v : V) (keys : List K) → AllByRecursion (λ k. lookup (same k) es ≡ None) keys → AllByRecursion (λ k. same n k ≡ false) keys
-      → AllByRecursion (λ k. lookup (same k) (es ++ (n, v) ∷ []) ≡ None) keys
+      → AllByRecursion (λ k. lookup (same k) (put_by before es (n, v)) ≡ None) keys
   still_none es n v [] lacks other = tt
   still_none es n v (k ∷ keys) lacks other = (
-    lookup-push_elsewhere same decides es n k v (λ e. true≢false (sym ((decides n k).1 e) ∙ other.0)) ∙ lacks.0,
+    lookup-put_by_elsewhere before same decides es n k v (λ e. true≢false (sym ((decides n k).1 e) ∙ other.0)) ∙ lacks.0,
     still_none es n v keys lacks.1 other.1,
   )

@@ -1,11 +1,16 @@
 pub mod AscendLemmas
 pub mod BackLemmas
+pub mod ChangeLemmas
+pub mod CompareLemmas
 pub mod KeysLemmas
 pub mod ListLemmas
+pub mod NameLemmas
+pub mod PlacesLemmas
 pub mod PutLemmas
 pub mod ReadLemmas
 pub mod RouteLemmas
 pub mod RulesLemmas
 pub mod SortLemmas
 pub mod TextLemmas
+pub mod WalkLemmas
 pub mod WrittenLemmas

@@ -1,10 +1,9 @@
 -- The texts of the rules, sorted and written, are the document of the rules, which says them.
-use Rattle.std.proofs.Common.{◌≡◌, ◌≤◌, ℕ, max, Bool, true, false, List, [], ◌∷◌, ◌++◌, map, fold, flat_map, codes, length, Option, None, Some, option_map, option_and_then, Result, Ok, Err, IsUtf8, append_assoc, append-nil, refl, sym, ap, subst, ◌∙◌, arith}
+use Rattle.std.proofs.Common.{◌≡◌, ◌≤◌, ℕ, max, Bool, true, false, List, [], ◌∷◌, ◌++◌, map, fold, flat_map, codes, length, Option, None, Some, option_map, option_and_then, Result, Ok, Err, IsUtf8, append_assoc, append-nil, refl, sym, ap, ◌∙◌, arith}
 use Rattle.std.proofs.lemmas.Bool.{true≢false}
 use Rattle.std.proofs.Math.Nat.{max-le}
 use Rattle.std.specs.List.{AllByRecursion, IsDistinct, join_with_byte}
 use Rattle.std.specs.List.Sorted.{IsPermutation}
-use Rattle.std.specs.Option.{option_map_or}
 use Rattle.std.specs.Map.{keys_of}
 use Rattle.json.specs.Json as json
 use Rattle.json.specs.Lex.{tokens}
@@ -156,20 +155,10 @@ pub Writes-put : (texts : List (List ℕ × List ℕ)) (key : RuleKey) (target :
     → Writes (texts ++ named_text (key, target) ∷ []) left rules
 Writes-put texts key target left rules named w = record { texts = append_assoc texts (named_text (key, target) ∷ []) (texts_of left) ∙ w.texts; named = λ later. w.named (named, later) }
 
--- by what stands at the next slot
-pub Writes-past : (texts : List (List ℕ × List ℕ)) (r : Option (RuleKey × Option RuleTarget)) (left rules : Rules) → option_and_then {U = RuleKey × RuleTarget} (λ e. option_map (λ target. (e.0, target)) e.1) r ≡ None
-    → Writes texts (option_map_or (λ e. e ∷ left) r left) rules → Writes texts left rules
-Writes-past texts None left rules none w = w
-Writes-past texts (Some (key, None)) left rules none w = Writes-skip texts key left rules w
-Writes-past texts (Some (key, Some target)) left rules none w = absurd cc
-
-pub Writes-next : (texts : List (List ℕ × List ℕ)) (r : Option (RuleKey × Option RuleTarget)) (key : RuleKey) (target : RuleTarget) (left rules : Rules) → option_and_then {U = RuleKey × RuleTarget} (λ e. option_map (λ t. (e.0, t)) e.1) r ≡ Some (key, target)
-    → IsNamed (key, target) → Writes texts (option_map_or (λ e. e ∷ left) r left) rules → Writes (texts ++ named_text (key, target) ∷ []) left rules
-Writes-next texts None key target left rules is named w = absurd cc
-Writes-next texts (Some (own, None)) key target left rules is named w = absurd cc
-Writes-next texts (Some (own, Some stood)) key target left rules is named w =
-    let same : (own, stood) ≡ (key, target) = cc in
-    Writes-put texts key target left rules named (subst (λ (e : RuleKey × RuleTarget). Writes texts ((e.0, Some e.1) ∷ left) rules) same w)
+-- what is no rule is none
+pub no_rule : (rule : Option RuleTarget) → ((to : RuleTarget) → rule ≡ Some to → ⊥) → rule ≡ None
+no_rule None not = refl
+no_rule (Some to) not = absurd (not to refl)
 
 pub Writes-all : (texts : List (List ℕ × List ℕ)) (rules : Rules) → Writes texts [] rules → texts ≡ texts_of rules
 Writes-all texts rules w = sym (append-nil texts) ∙ w.texts

@@ -1,15 +1,15 @@
 -- The rules as a member of a larger document: however many they are, they are read to the end, and the limit is told last.
-use Rattle.std.specs.Prelude.{nat_lt, if◌then◌else◌, [], ◌∷◌, ◌++◌, length, Option, None, Some, option_and_then, Result, Ok, Err}
+use Rattle.std.specs.Prelude.{nat_lt, if◌then◌else◌, [], length, Option, None, Some, option_and_then, Result, Ok, Err}
 use Rattle.std.specs.Option.{option_map_or}
 use Rattle.serde_json.specs.Data.{Data, null, boolean, number, string, array, object, Items, no_items, item}
 use Rattle.mt_names.specs.declared.keys.RuleKey.{RuleKey}
 use Rattle.mt_names.specs.declared.keys.RuleTarget.{RuleTarget}
 use Rattle.mt_model.specs.Limits.{most_rules}
-use Rattle.mt_model.specs.Topology.{Rules}
+use Rattle.mt_model.specs.Topology.{Rules, put_rule}
 use Rattle.mt_rules.specs.declared.fault.RulesFault.{RulesFault}
 use Rattle.mt_rules.specs.declared.fault.RulesFault.TheVariants.{Full, Shape}
 use Rattle.mt_rules.specs.Read.{rule_of}
-use Rattle.mt_places.specs.Rules.{has_rule_place}
+use Rattle.mt_rules.specs.Rules.{has_rule_place}
 
 -- what was read, unless there is a fault
 abbrev pub unless_fault : {A E : Type 0} → Result A E → Option A
@@ -18,7 +18,7 @@ unless_fault (Err fault) = None
 
 -- the rules with one more, unless its key has one already
 abbrev pub with_new_rule : Rules → RuleKey × RuleTarget → Option Rules
-with_new_rule rules r = if has_rule_place rules r.0 then None else Some (rules ++ (r.0, Some r.1) ∷ [])
+with_new_rule rules r = if has_rule_place rules r.0 then None else Some (put_rule rules (r.0, Some r.1))
 
 -- the rules with that of a value
 abbrev pub with_rule_of : Rules → Data → Option Rules

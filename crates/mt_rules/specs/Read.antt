@@ -1,5 +1,5 @@
 -- The document of the rules as it is read: which rules the value of a text says, or which fault comes first.
-use Rattle.std.specs.Prelude.{◌≡◌, ◌⊎◌, ℕ, ◌&&◌, ◌==◌, Bool, true, is_some, if◌then◌else◌, List, [], ◌∷◌, ◌++◌, length, codes, Option, None, Some, option_and_then, Result, Ok, Err}
+use Rattle.std.specs.Prelude.{◌≡◌, ◌⊎◌, ℕ, ◌&&◌, ◌==◌, Bool, true, is_some, if◌then◌else◌, List, [], length, codes, Option, None, Some, option_and_then, Result, Ok, Err}
 use Rattle.std.specs.Borrow.{Bor}
 use Rattle.std.specs.Option.{option_map_or, option_or}
 use Rattle.std.specs.Str.{is_utf8}
@@ -12,10 +12,10 @@ use Rattle.mt_names.specs.declared.keys.RuleTarget.{RuleTarget}
 use Rattle.mt_names.specs.Keys.{read_key, read_target}
 use Rattle.mt_names.specs.Results.{◌>>=◌}
 use Rattle.mt_model.specs.Limits.{most_rules}
-use Rattle.mt_model.specs.Topology.{Rules}
+use Rattle.mt_model.specs.Topology.{Rules, put_rule}
 use Rattle.mt_rules.specs.declared.fault.RulesFault.{RulesFault}
 use Rattle.mt_rules.specs.declared.fault.RulesFault.TheVariants.{Memory, Full, NotJson, Shape, BadName, NotOneTarget, RepeatedKey}
-use Rattle.mt_places.specs.Rules.{has_rule_place}
+use Rattle.mt_rules.specs.Rules.{has_rule_place}
 
 -- ---- one rule
 
@@ -76,7 +76,7 @@ abbrev pub with_one_more : Rules → RuleKey × RuleTarget → Result Rules Rule
 with_one_more rules r =
     if has_rule_place rules r.0 then Err RepeatedKey
     else if length rules == most_rules then Err Full
-    else Ok (rules ++ (r.0, Some r.1) ∷ [])
+    else Ok (put_rule rules (r.0, Some r.1))
 
 -- the rules with those of a list, taken in turn, or the first fault
 abbrev pub with_rules : Rules → Items → Result Rules RulesFault

@@ -5,9 +5,9 @@ ghost use Rattle.mt_rules.specs.Read.{IsUnlessMemory, answer_with};
 ghost use Rattle.mt_rules.specs.Member.{or_shape, rules_in, rules_of, with_new_rule, with_rule_of};
 
 use crate::RulesFault;
+use crate::places::Places;
 use crate::read::rule_of;
 use mt_names::{RuleKey, RuleTarget};
-use mt_places::Places;
 use serde_json::Value;
 use std::alloc::Global;
 

@@ -1,55 +1,48 @@
 //! The table of routing rules.
-ghost use Rattle.std.specs.Prelude.{◌≡◌, ◌≤◌, ◌<◌, ◌↔◌, ◌==◌, ◌++◌, ◌∷◌, [], None, Some, true, false, length, IsTrue, IfOk, IfErr, OnOk, OnErr, string_bytes, option_copied, option_map, slice_get, ◌+◌, map};
+ghost use Rattle.std.specs.Prelude.{◌≡◌, ◌≤◌, ◌<◌, ◌↔◌, ◌==◌, ◌++◌, [], Option, None, Some, true, false, fold, length, reverse, IsTrue, IfOk, IfErr, OnOk, OnErr, string_bytes, option_and_then, option_copied, option_map, slice_get, ◌+◌};
 ghost use Rattle.std.specs.List.{AllByRecursion, IsDistinct};
-ghost use Rattle.std.specs.Map.{keys_of, remove_entry, set_value};
+ghost use Rattle.std.specs.Map.{keys_of, lookup, set_value};
+ghost use Rattle.mt_names.specs.declared.types.TabletType.{TabletType};
 ghost use Rattle.mt_names.specs.Same.{same_key};
 ghost use Rattle.mt_model.specs.Limits.{most_rules};
+ghost use Rattle.mt_model.specs.Order.{Ascends, key_before};
 ghost use Rattle.mt_model.specs.Part.{rule_routes};
-ghost use Rattle.mt_model.specs.Topology.{rule_at, rule_for, without_rule_place};
+ghost use Rattle.mt_model.specs.Topology.{put_rule, rule_at, rule_for, with_rule_place, without_rule_place};
 ghost use Rattle.mt_rules.specs.Read.{IsUnlessMemory, answer_with, rules_of_text, with_one_more};
 ghost use Rattle.serde_json.specs.View.{view};
 ghost use Rattle.serde_json.specs.Written.{compact_text};
 ghost use Rattle.mt_rules.specs.Values.{IsWellSorted, Says, document_value};
 ghost use Rattle.mt_rules.specs.Member.{rules_within};
 ghost use Rattle.mt_model.specs.Documents.{rules_array, rules_text};
-ghost use Rattle.mt_places.specs.Places.{in_order, of_type};
-ghost use Rattle.mt_places.specs.Rules.{four_keys, four_rules, has_rule_place, lent_rule, with_rules_set, without_keys};
-ghost use Rattle.mt_rules.specs.Rules.{Reserves};
+ghost use Rattle.mt_rules.specs.Places.{first_after, place_at};
+ghost use Rattle.mt_rules.specs.Rules.{Reserves, four_keys, four_rules, has_rule_place, lent_rule, of_type, with_rules_set};
 
-use crate::{RulesFault, member, read, text, write};
+use crate::name::{NamePlaces, RuleName};
+use crate::places::Places;
+use crate::{RulesFault, member, read, text, walk, write};
 use mt_model::{Entry, MAX_RULES};
 use mt_names::{KeyspaceName, RuleKey, RuleTarget, TableName, TabletType};
-use mt_places::{Counts, Four, Links, Places};
 use serde_json::Value;
 use std::alloc::{AllocError, Global};
 use std::marker::Model;
-
-/// None of the places of a name's four keys.
-const NONE: Four = (false, false, false, false);
-
-/// All of the places of a name's four keys.
-const ALL: Four = (true, true, true, true);
 
 /// Routing rules by their keys. A key is reserved before its rule is set, so that to set it takes no memory: it then
 /// has a place, with a rule or without one. There are at most 4,096 places.
 #[derive(Drop)]
 pub struct RoutingRules {
     places: Places,
-    placed: Counts,
-    standing: Counts,
 }
 
 impl Model for RoutingRules {
-    ghost use Rattle.std.specs.Prelude.{◌≤◌, is_some, length};
+    ghost use Rattle.std.specs.Prelude.{◌≤◌, length};
     ghost use Rattle.mt_model.specs.Limits.{most_rules};
     ghost use Rattle.mt_model.specs.Topology.{Rules};
-    ghost use Rattle.mt_places.specs.Counts.{IsCounted, any_place};
 
     ghost Value = { Rules };
 
     ghost view = { λ rules. rules.places };
 
-    ghost invariant = { λ rules. (length rules.places ≤ most_rules) × IsCounted any_place rules.placed rules.places × IsCounted is_some rules.standing rules.places };
+    ghost invariant = { λ rules. length rules.places ≤ most_rules };
 }
 
 impl RoutingRules {
@@ -59,8 +52,6 @@ impl RoutingRules {
     {
         RoutingRules {
             places: Places::new(alloc),
-            placed: Counts::new(),
-            standing: Counts::new(),
         }
     }
 
@@ -85,12 +76,7 @@ impl RoutingRules {
         if places.len() > MAX_RULES {
             return Err(RulesFault::Full);
         }
-        let (placed, standing) = Counts::of(&places);
-        Ok(RoutingRules {
-            places,
-            placed,
-            standing,
-        })
+        Ok(RoutingRules { places })
     }
 
     /// The document of the rules, which `from_json` reads back: the compact text that `serde_json` writes of their value, `from_table` before
@@ -116,12 +102,14 @@ impl RoutingRules {
         text::push_rules(alloc, text, &self.places)
     }
 
-    /// What is true of all rules, for a caller's proof: there are at most 4,096 places, and no key has two. It does nothing.
+    /// What is true of all rules, for a caller's proof: there are at most 4,096 places, they stand in the order of their keys, and no key
+    /// has two. It does nothing.
     pub fn facts(&self)
         ensures within { length self.now ≤ most_rules }
+        ensures ordered { Ascends key_before self.now }
         ensures distinct { IsDistinct same_key (keys_of self.now) }
     {
-        let _distinct = self.places.len();
+        let _len = self.places.len();
     }
 
     /// How many places there are. It takes no memory.
@@ -132,13 +120,28 @@ impl RoutingRules {
         self.places.len()
     }
 
-    /// The key of a place by its index, and the rule that it has, if it has one: each place once, in the order in which they were made. It
-    /// takes no memory; it looks at each place before it.
+    /// The first key after another that has a place, or the first of all, in the order of keys: so a caller goes from place to place.
+    /// The other needs no place of its own. It takes no memory; it looks at each place once.
+    pub fn after(&self, last: Option<&RuleKey>) -> Option<RuleKey>
+        ensures { result ≡ first_after (option_copied last.entry) self.now }
+    {
+        walk::after(self.places.names(), last)
+    }
+
+    /// The key of a place by its index, and the rule that it has, if it has one: each place once, in the order of their keys. It takes no
+    /// memory; it looks at all places once, and once more for each place before this one.
     pub fn place(&self, index: usize) -> (RuleKey, Option<&RuleTarget>)
         requires { index < length self.now }
         ensures { Some (result.0, option_copied result.1) ≡ slice_get self.now index }
     {
-        place_in(self.places.links(), index).unwrap()
+        self.facts();
+        let mut last = None;
+        for _ in 0..index {
+            last = self.after(last.as_ref());
+        }
+        let key = self.after(last.as_ref()).unwrap();
+        let rule = self.get(&key);
+        (key, rule)
     }
 
     /// Whether there is no place.
@@ -161,9 +164,6 @@ impl RoutingRules {
     pub fn get(&self, key: &RuleKey) -> Option<&RuleTarget>
         ensures { option_copied result ≡ rule_at self.now key.now }
     {
-        if !self.may_have_rule(&key.table) {
-            return None;
-        }
         self.places.get(key)?.as_ref()
     }
 
@@ -172,18 +172,15 @@ impl RoutingRules {
     pub fn rule_for(&self, key: &RuleKey, tablet_type: TabletType) -> Option<&RuleTarget>
         ensures { option_copied result ≡ rule_for self.now key.now tablet_type }
     {
-        if !self.may_have_rule(&key.table) {
-            return None;
-        }
         self.places.rule_for(key, tablet_type)
     }
 
-    /// Whether any key of a table may have a rule: if not, none has one. Nothing is promised if it may. It takes no memory, and
-    /// looks at no place.
-    pub fn may_have_rule(&self, table: &TableName) -> bool
-        ensures { result ≡ false → (key : RuleKey) → key.table ≡ table.now → rule_at self.now key ≡ None }
+    /// The places of a name's four keys: none if none of these has one. It takes no memory, and looks the name up once.
+    pub fn name(&self, keyspace: Option<&KeyspaceName>, table: &TableName) -> Option<&NamePlaces>
+        ensures { (type : Option TabletType) → option_and_then (λ four. place_at four type) (option_copied result)
+            ≡ lookup (same_key (record { keyspace = option_copied keyspace.entry; table = table.now; tablet_type = type })) self.now }
     {
-        self.standing.may_have(table)
+        self.places.name(&RuleName::new(keyspace, table))
     }
 
     /// How many keys have a rule. It takes no memory; it looks at each place.
@@ -191,15 +188,28 @@ impl RoutingRules {
         ensures value { result ≡ length (rule_routes self.now) }
         ensures within { result ≤ most_rules }
     {
-        rule_count(self.places.links())
+        walk::rule_count(self.places.names())
     }
 
-    /// The entry of a rule, by its index among the keys that have one, in the order of their places. It takes no memory;
-    /// it looks at each place before it.
+    /// The entry of a rule, by its index among the keys that have one, in the order of their places. It takes no memory; it looks at all
+    /// places once for each place up to its own.
     pub fn rule_entry(&self, index: usize) -> Option<Entry>
         ensures { result ≡ slice_get (rule_routes self.now) index }
     {
-        rule_entry(self.places.links(), index)
+        self.facts();
+        let mut left = index;
+        let mut last = None;
+        for _ in 0..self.places.len() {
+            let key = self.after(last.as_ref())?;
+            if let Some(target) = self.get(&key) {
+                if left == 0 {
+                    return Some(Entry::Rule(key, Some(target.copied())));
+                }
+                left -= 1;
+            }
+            last = Some(key);
+        }
+        None
     }
 
     /// Adds the entries of all rules to a list, in the order of their places; it looks at each place once. Refused only when out of memory,
@@ -207,22 +217,20 @@ impl RoutingRules {
     pub fn push_routes(&self, list: &mut Vec<Entry>) -> Result<(), AllocError>
         ensures { OnOk result (list.new.items ≡ list.old.items ++ rule_routes self.now) }
     {
-        push_routes(self.places.links(), list)
+        for place in &walk::in_order(self.places.alloc(), &self.places)? {
+            if let Some(target) = place.rule {
+                let key = place.name.key(place.tablet_type);
+                list.push(Entry::Rule(key, Some(target.copied())))?;
+            }
+        }
+        Ok(())
     }
 
-    /// Whether a key is reserved. Of most keys that aren't, that is told without a look at any place.
+    /// Whether a key is reserved.
     pub fn has_place(&self, key: &RuleKey) -> bool
         ensures { result ≡ has_rule_place self.now key.now }
     {
-        self.may_have_place(&key.table) && self.places.contains(key)
-    }
-
-    /// Whether any key of a table may have a place: if not, none has one. Nothing is promised if it may. It takes no memory, and looks
-    /// at no place.
-    pub fn may_have_place(&self, table: &TableName) -> bool
-        ensures { result ≡ false → (key : RuleKey) → key.table ≡ table.now → has_rule_place self.now key ≡ false }
-    {
-        self.placed.may_have(table)
+        self.places.contains(key)
     }
 
     /// Makes a place for a key, without a rule. Where the key has one nothing changes. `R1 Full` at a 4,097th place,
@@ -240,7 +248,7 @@ impl RoutingRules {
     }
 
     /// Makes a place for a key that has none, without a rule, where there is room for one more. `R0 Memory`, which leaves
-    /// all as it was. It looks the key up once, and `reserve_key` twice.
+    /// all as it was. It looks the key's name up three times at most, and `reserve_key` once more.
     pub fn add_key(&mut self, key: &RuleKey) -> Result<(), RulesFault>
         requires lacks { has_rule_place self.old key.now ≡ false }
         requires room { length self.old < most_rules }
@@ -253,23 +261,20 @@ impl RoutingRules {
     }
 
     /// Makes the places of a name's four keys, none of which has one, without rules, where there is room for four more. The type of the
-    /// key is not looked at. `R0 Memory`, which leaves all as it was. It looks the name up once.
+    /// key is not looked at. `R0 Memory`, which leaves all as it was. It looks the name up three times.
     pub fn add_name(&mut self, name: &RuleKey) -> Result<(), RulesFault>
         requires lacks { AllByRecursion (λ key. has_rule_place self.old key ≡ false) (four_keys name.now) }
         requires room { length self.old + 4 ≤ most_rules }
-        ensures ok { OnOk result (self.new ≡ self.old ++ map (λ key. (key, None)) (four_keys name.now)) }
+        ensures ok { OnOk result (self.new ≡ fold with_rule_place self.old (four_keys name.now)) }
         ensures err { IfErr result (λ fault. (fault ≡ RulesFault.Memory) × (self.new ≡ self.old)) }
     {
         match self.places.add_name(name) {
-            Ok(()) => {
-                self.placed.count_four(&name.table, NONE, ALL);
-                Ok(())
-            }
+            Ok(()) => Ok(()),
             Err(_) => Err(RulesFault::Memory),
         }
     }
 
-    /// Makes a place behind the others, for a key that has none. Without memory nothing changes.
+    /// Makes a place for a key that has none. Without memory nothing changes.
     fn add_place(
         &mut self,
         key: &RuleKey,
@@ -277,14 +282,10 @@ impl RoutingRules {
     ) -> Result<(), AllocError>
         requires lacks { has_rule_place self.old key.now ≡ false }
         requires room { length self.old < most_rules }
-        ensures ok { OnOk result (self.new ≡ self.old ++ (key.now, lent_rule rule.entry) ∷ []) }
+        ensures ok { OnOk result (self.new ≡ put_rule self.old (key.now, lent_rule rule.entry)) }
         ensures err { OnErr result (self.new ≡ self.old) }
     {
-        let stands = rule.is_some();
-        self.places.add(key, rule)?;
-        self.placed.count(&key.table, false, true);
-        self.standing.count(&key.table, false, stands);
-        Ok(())
+        self.places.add(key, rule)
     }
 
     /// Adds the rule of a document, whose key must be new. `R6 RepeatedKey`, then `R1 Full`, then `R0 Memory`.
@@ -322,13 +323,11 @@ impl RoutingRules {
         requires { has_rule_place self.old key.now ≡ true }
         ensures { self.new ≡ set_value (same_key key.now) self.old (lent_rule rule.entry) }
     {
-        let stands = rule.is_some();
-        let stood = self.places.put(key, rule);
-        self.standing.count(&key.table, stood, stands);
+        self.places.put(key, rule);
     }
 
     /// Sets the rules of two keys of a name, each of which is reserved, one after the other, by the names of where they lead, or takes
-    /// them away, and leaves the rules before. The type of the key is not looked at. It takes no memory, and looks the name up once.
+    /// them away, and leaves the rules before. The type of the key is not looked at. It takes no memory, and looks the name up twice.
     pub fn exchange_two(
         &mut self,
         name: &RuleKey,
@@ -346,10 +345,7 @@ impl RoutingRules {
         ensures second { second.new ≡ rule_at (set_value (same_key (of_type name.now types.0)) self.old (lent_rule rules.entry.0)) (of_type name.now types.1) }
         ensures after { self.new ≡ set_value (same_key (of_type name.now types.1)) (set_value (same_key (of_type name.now types.0)) self.old (lent_rule rules.entry.0)) (lent_rule rules.entry.1) }
     {
-        let stand = (rules.0.is_some(), rules.1.is_some(), false, false);
         self.places.exchange_two(name, types, rules, first, second);
-        let stood = (first.is_some(), second.is_some(), false, false);
-        self.standing.count_four(&name.table, stood, stand);
     }
 
     /// Sets the rules of a name's four keys, each of which has a place, one after the other: that for all types, those of primary,
@@ -365,120 +361,26 @@ impl RoutingRules {
         requires { AllByRecursion (λ key. has_rule_place self.old key ≡ true) (four_keys name.now) }
         ensures { self.new ≡ with_rules_set self.old (four_rules name.now (lent_rule plain.entry) (lent_rule primary.entry) (lent_rule replica.entry) (lent_rule rdonly.entry)) }
     {
-        let stand = (
-            plain.is_some(),
-            primary.is_some(),
-            replica.is_some(),
-            rdonly.is_some(),
-        );
-        let stood = self.places.put_name(name, plain, primary, replica, rdonly);
-        self.standing.count_four(&name.table, stood, stand);
+        self.places.put_name(name, plain, primary, replica, rdonly);
     }
 
-    /// Drops the places of a name's four keys, with their rules, one after the other. The type of the key is not looked at. It takes no
-    /// memory, and looks the name up once.
-    pub fn drop_name(&mut self, name: &RuleKey)
-        ensures { self.new ≡ without_keys self.old (four_keys name.now) }
+    /// Drops those places of a name's four keys that have no rule, the last first. The type of the key is not looked at. It takes no
+    /// memory.
+    pub fn release_name(&mut self, name: &RuleKey)
+        ensures { self.new ≡ fold without_rule_place self.old (reverse (four_keys name.now)) }
     {
-        let told = self.places.remove_name(name);
-        let placed = (
-            told.0.is_some(),
-            told.1.is_some(),
-            told.2.is_some(),
-            told.3.is_some(),
-        );
-        let stood = (
-            told.0.unwrap_or(false),
-            told.1.unwrap_or(false),
-            told.2.unwrap_or(false),
-            told.3.unwrap_or(false),
-        );
-        self.placed.count_four(&name.table, placed, NONE);
-        self.standing.count_four(&name.table, stood, NONE);
+        self.places.release_name(name);
     }
 
     /// Drops the place of a key that has no rule. Where the key has a rule nothing changes. It takes no memory.
     pub fn release_key(&mut self, key: &RuleKey)
         ensures { self.new ≡ without_rule_place self.old key.now }
     {
-        if !self.may_have_place(&key.table) {
-            return;
-        }
         let Some(rule) = self.places.get(key) else {
             return;
         };
         if rule.is_none() {
-            self.drop_key(key);
+            self.places.remove(key);
         }
     }
-
-    /// Drops the place of a key, with its rule if it has one. It takes no memory.
-    fn drop_key(&mut self, key: &RuleKey)
-        ensures { self.new ≡ remove_entry (same_key key.now) self.old }
-    {
-        let Some(stood) = self.places.remove(key) else {
-            return;
-        };
-        self.placed.count(&key.table, true, false);
-        self.standing.count(&key.table, stood, false);
-    }
-}
-
-/// How many keys have a rule.
-fn rule_count(links: &Links) -> usize
-    requires { length (in_order (keys_of links.now.names.entries) links.now.slots.items) ≤ most_rules }
-    ensures value { result ≡ length (rule_routes (in_order (keys_of links.now.names.entries) links.now.slots.items)) }
-    ensures within { result ≤ most_rules }
-{
-    let mut count = 0;
-    for slot in links.slots() {
-        if links.rule_of_slot(slot).is_some() {
-            count += 1;
-        }
-    }
-    count
-}
-
-/// The entry of a rule, by its index among the keys that have one.
-fn rule_entry(links: &Links, index: usize) -> Option<Entry>
-    ensures { result ≡ slice_get (rule_routes (in_order (keys_of links.now.names.entries) links.now.slots.items)) index }
-{
-    let mut before = index;
-    for slot in links.slots() {
-        if let Some((key, target)) = links.rule_of_slot(slot) {
-            if before == 0 {
-                return Some(Entry::Rule(key, Some(target.copied())));
-            }
-            before -= 1;
-        }
-    }
-    None
-}
-
-/// Adds the entries of all rules to a list.
-fn push_routes(links: &Links, list: &mut Vec<Entry>) -> Result<(), AllocError>
-    ensures { OnOk result (list.new.items ≡ list.old.items ++ rule_routes (in_order (keys_of links.now.names.entries) links.now.slots.items)) }
-{
-    for slot in links.slots() {
-        if let Some((key, target)) = links.rule_of_slot(slot) {
-            list.push(Entry::Rule(key, Some(target.copied())))?;
-        }
-    }
-    Ok(())
-}
-
-/// The key of a place by its index, and the rule that it has, if it has one; none past the last.
-fn place_in(links: &Links, index: usize) -> Option<(RuleKey, Option<&RuleTarget>)>
-    ensures { option_map (λ place. (place.0, option_copied place.1)) result ≡ slice_get (in_order (keys_of links.now.names.entries) links.now.slots.items) index }
-{
-    let mut left = index;
-    for slot in links.slots() {
-        if let Some((key, rule)) = links.place_of(slot) {
-            if left == 0 {
-                return Some((key, rule.as_ref()));
-            }
-            left -= 1;
-        }
-    }
-    None
 }

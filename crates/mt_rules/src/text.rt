@@ -9,9 +9,10 @@ ghost use Rattle.mt_rules.specs.Values.{IsNamed, IsWellSorted};
 ghost use Rattle.mt_rules.specs.Written.{named_text, quoted_item, text_of_texts, texts_of, written_document, written_text};
 ghost use Rattle.mt_names.specs.Keys.{target_text};
 
+use crate::places::Places;
+use crate::walk::in_order;
 use arrayvec::ArrayString;
 use mt_names::{RuleKey, RuleTarget};
-use mt_places::Places;
 use std::alloc::{AllocError, Global};
 
 /// How many bytes the text of a rule is taken to have before it is known.
@@ -162,17 +163,17 @@ fn written_rule(key: &RuleKey, target: &RuleTarget) -> WrittenItem
     }
 }
 
-/// The rules as they are written, in the order of their places.
+/// The rules as they are written, in the order of their keys.
 pub fn written_rules(alloc: Global, places: &Places) -> Result<Vec<WrittenItem>, AllocError>
     ensures texts { IfOk result (λ rules. map written_text rules.items ≡ texts_of places.now) }
     ensures named { OnOk result (AllByRecursion IsNamed (flat_map entries_of places.now)) }
     ensures distinct { IsDistinct same_key (keys_of places.now) }
 {
-    let len = places.len();
-    let mut rules = Vec::with_capacity(alloc, len)?;
-    let links = places.links();
-    for slot in links.slots() {
-        if let Some((key, target)) = links.rule_of_slot(slot) {
+    let list = in_order(alloc, places)?;
+    let mut rules = Vec::with_capacity(alloc, list.len())?;
+    for place in &list {
+        if let Some(target) = place.rule {
+            let key = place.name.key(place.tablet_type);
             rules.push(written_rule(&key, target))?;
         }
     }

@@ -5,8 +5,8 @@ ghost use Rattle.mt_model.specs.Documents.{rules_text};
 ghost use Rattle.mt_rules.specs.Values.{Says, document_value};
 ghost use Rattle.serde_json.specs.Written.{compact_text};
 
+use crate::places::Places;
 use crate::text;
-use mt_places::Places;
 use std::alloc::{AllocError, Global};
 
 /// The document of the rules.

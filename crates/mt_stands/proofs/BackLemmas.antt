@@ -14,10 +14,12 @@ use Rattle.mt_names.proofs.SameLemmas.{same_key_decides, same_text_decides}
 use Rattle.mt_model.specs.declared.entries.EntryKey.{EntryKey}
 use Rattle.mt_model.specs.declared.entries.EntryKey.TheVariants as about
 use Rattle.mt_model.specs.Part.{with_place, with_places, without_place, without_places}
-use Rattle.mt_model.specs.Topology.{KeyspaceState, Keyspaces, Marks, Rules, TopologyState, has_place, is_marked, keyspace_at, rule_at, value_of, with_denied_place, with_keyspace_state, with_mark_place, with_rule_place, with_table_place, without_denied_place, without_mark_place, without_rule_place, without_table_place}
-use Rattle.mt_model.proofs.PlaceLemmas.{place_back}
-use Rattle.mt_model.proofs.TopologyLemmas.{is_marked-with_mark_place, rule_at-with_rule_place}
-use Rattle.mt_stands.proofs.PlaceLemmas.{holds}
+use Rattle.mt_model.specs.Order.{key_before}
+use Rattle.mt_model.proofs.OrderLemmas.{key_order, put-put, put_placed-elsewhere}
+use Rattle.mt_model.specs.Topology.{KeyspaceState, Keyspaces, Marks, Rules, TopologyState, put_rule, has_place, is_marked, keyspace_at, rule_at, value_of, with_denied_place, with_keyspace_state, with_mark_place, with_rule_place, with_table_place, without_denied_place, without_mark_place, without_table_place}
+use Rattle.mt_model.proofs.PlaceLemmas.{place_back, same-with_places}
+use Rattle.mt_model.proofs.TopologyLemmas.{is_marked-with_mark_place}
+use Rattle.mt_stands.proofs.PlaceLemmas.{holds, place_elsewhere}
 
 -- ---- one place dropped, another made
 
@@ -40,14 +42,6 @@ module _ {K V : Type 0} (same : K → K → Bool) (decides : DecidesEquality sam
       by : (o : Option V) → remove_entry (same k) (option_map_or (λ found. es) o (es ++ (n, v) ∷ [])) ≡ option_map_or (λ found. remove_entry (same k) es) o (remove_entry (same k) es ++ (n, v) ∷ [])
       by None = removed_push es (n, v) k other
       by (Some found) = refl
-
-rules_turned : (rules : Rules) (n k : RuleKey) → k ≢ n → without_rule_place (with_rule_place rules n) k ≡ with_rule_place (without_rule_place rules k) n
-rules_turned rules n k other =
-    ap (λ o. option_map_or (λ target. with_rule_place rules n) o (remove_entry (same_key k) (with_rule_place rules n))) (rule_at-with_rule_place rules n k) ∙ by (rule_at rules k)
-  where
-    by : (o : Option RuleTarget) → option_map_or (λ target. with_rule_place rules n) o (remove_entry (same_key k) (with_rule_place rules n)) ≡ with_rule_place (option_map_or (λ target. rules) o (remove_entry (same_key k) rules)) n
-    by None = turned same_key same_key_decides rules n k None other
-    by (Some target) = refl
 
 marks_turned : (marks : Marks) (n k : List ℕ) → k ≢ n → without_mark_place (with_mark_place marks n) k ≡ with_mark_place (without_mark_place marks k) n
 marks_turned marks n k other =
@@ -97,37 +91,39 @@ module _ (f g : KeyspaceState → KeyspaceState) (a b : List ℕ) (meet : a ≡ 
       ap (λ ks. with_keyspace_state f ks a) (is_changed g keyspaces b) ∙ is_changed f (changed g keyspaces b) a ∙ changed_turned keyspaces
       ∙ sym (is_changed g (changed f keyspaces a) b) ∙ ap (λ ks. with_keyspace_state g ks b) (sym (is_changed f keyspaces a))
 
--- the key that is dropped, and the one that gets a place
-place_turned : (t : TopologyState) (k j : EntryKey) → k ≢ j → without_place (with_place t j) k ≡ with_place (without_place t k) j
-place_turned t (about.Rule k) (about.Rule j) other =
-    let with_rules : Rules → TopologyState = λ rules. record t { rules = rules } in
-    ap with_rules (rules_turned t.rules j k (λ e. other (ap about.Rule e)))
-place_turned t (about.Rule k) (about.Denied keyspace table) other = refl
-place_turned t (about.Rule k) (about.Present keyspace table) other = refl
-place_turned t (about.Denied a n) (about.Rule j) other = refl
-place_turned t (about.Denied a n) (about.Denied b m) other =
+-- a key of a denial or of a table, and none of a rule
+abbrev is_mark : EntryKey → Bool
+is_mark (about.Rule key) = false
+is_mark (about.Denied keyspace table) = true
+is_mark (about.Present keyspace table) = true
+
+-- the mark that is dropped, and the key that gets a place
+place_turned : (t : TopologyState) (k j : EntryKey) → is_mark k ≡ true → k ≢ j → without_place (with_place t j) k ≡ with_place (without_place t k) j
+place_turned t (about.Rule k) j mark other = absurd (true≢false (sym mark))
+place_turned t (about.Denied a n) (about.Rule j) mark other = refl
+place_turned t (about.Denied a n) (about.Denied b m) mark other =
     let with_keyspaces : Keyspaces → TopologyState = λ keyspaces. record t { keyspaces = keyspaces } in
     ap with_keyspaces
     (keyspaces_turned (without_denied_place n) (with_denied_place m) a b
     (λ is state. let with_denied : Marks → KeyspaceState = λ marks. record state { denied = marks } in ap with_denied (marks_turned state.denied m n (λ e. other (ap (λ x. about.Denied x n) is ∙ ap (about.Denied b) e)))) t.keyspaces)
-place_turned t (about.Denied a n) (about.Present b m) other =
+place_turned t (about.Denied a n) (about.Present b m) mark other =
     let with_keyspaces : Keyspaces → TopologyState = λ keyspaces. record t { keyspaces = keyspaces } in
     ap with_keyspaces (keyspaces_turned (without_denied_place n) (with_table_place m) a b (λ is state. refl) t.keyspaces)
-place_turned t (about.Present a n) (about.Rule j) other = refl
-place_turned t (about.Present a n) (about.Denied b m) other =
+place_turned t (about.Present a n) (about.Rule j) mark other = refl
+place_turned t (about.Present a n) (about.Denied b m) mark other =
     let with_keyspaces : Keyspaces → TopologyState = λ keyspaces. record t { keyspaces = keyspaces } in
     ap with_keyspaces (keyspaces_turned (without_table_place n) (with_denied_place m) a b (λ is state. refl) t.keyspaces)
-place_turned t (about.Present a n) (about.Present b m) other =
+place_turned t (about.Present a n) (about.Present b m) mark other =
     let with_keyspaces : Keyspaces → TopologyState = λ keyspaces. record t { keyspaces = keyspaces } in
     ap with_keyspaces
     (keyspaces_turned (without_table_place n) (with_table_place m) a b
     (λ is state. let with_tables : Marks → KeyspaceState = λ marks. record state { tables = marks } in ap with_tables (marks_turned state.tables m n (λ e. other (ap (λ x. about.Present x n) is ∙ ap (about.Present b) e)))) t.keyspaces)
 
-places_turned : (t : TopologyState) (k : EntryKey) (keys : List EntryKey) → All (λ j. k ≢ j) keys → without_place (with_places t keys) k ≡ with_places (without_place t k) keys
-places_turned t k [] others = refl
-places_turned t k (j ∷ js) others =
-    places_turned (with_place t j) k js (All-tail (λ i. k ≢ i) j js others)
-    ∙ ap (λ u. with_places u js) (place_turned t k j (All-head (λ i. k ≢ i) j js others))
+places_turned : (t : TopologyState) (k : EntryKey) (keys : List EntryKey) → is_mark k ≡ true → All (λ j. k ≢ j) keys → without_place (with_places t keys) k ≡ with_places (without_place t k) keys
+places_turned t k [] mark others = refl
+places_turned t k (j ∷ js) mark others =
+    places_turned (with_place t j) k js mark (All-tail (λ i. k ≢ i) j js others)
+    ∙ ap (λ u. with_places u js) (place_turned t k j mark (All-head (λ i. k ≢ i) j js others))
 
 -- ---- a place that holds something is neither made nor dropped
 
@@ -150,7 +146,7 @@ place_stays t (about.Rule key) there =
     let with_rules : Rules → TopologyState = λ rules. record t { rules = rules } in
     ap with_rules (by (lookup (same_key key) t.rules) there)
   where
-    by : (o : Option (Option RuleTarget)) → is_some o ≡ true → option_map_or (λ rule. t.rules) o (t.rules ++ (key, None) ∷ []) ≡ t.rules
+    by : (o : Option (Option RuleTarget)) → is_some o ≡ true → option_map_or (λ rule. t.rules) o (put_rule t.rules (key, None)) ≡ t.rules
     by None there = absurd (true≢false (sym there))
     by (Some rule) there = refl
 place_stays t (about.Denied k n) there =
@@ -198,12 +194,70 @@ one_back t key held = by (has_place t key) refl
     by true b = ap (λ u. without_place u key) (place_stays t key b) ∙ held_stays t key (held b)
     by false b = place_back t key b
 
+-- ---- places of rule keys, in either order
+
+-- where the first has a place already
+rules_stood : (rules : Rules) (k n : RuleKey) (rule : Option RuleTarget) → n ≢ k → lookup (same_key k) rules ≡ Some rule → with_rule_place (with_rule_place rules k) n ≡ with_rule_place (with_rule_place rules n) k
+rules_stood rules k n rule other is =
+    ap (λ l. with_rule_place l n) (ap (λ o. option_map_or (λ found. rules) o (put_rule rules (k, None))) is)
+    ∙ sym (ap (λ o. option_map_or (λ found. with_rule_place rules n) o (put_rule (with_rule_place rules n) (k, None))) (put_placed-elsewhere key_before same_key same_key_decides None rules n k other ∙ is))
+
+-- where it has none, and the second has none either
+rules_new : (rules : Rules) (k n : RuleKey) → k ≢ n → lookup (same_key k) rules ≡ None → lookup (same_key n) rules ≡ None → with_rule_place (with_rule_place rules k) n ≡ put_rule (put_rule rules (k, None)) (n, None)
+rules_new rules k n other first second =
+    ap (λ o. option_map_or (λ found. with_rule_place rules k) o (put_rule (with_rule_place rules k) (n, None))) (put_placed-elsewhere key_before same_key same_key_decides None rules k n other ∙ second)
+    ∙ ap (λ l. put_rule l (n, None)) (ap (λ o. option_map_or (λ found. rules) o (put_rule rules (k, None))) first)
+
+rules_either : (rules : Rules) (k n : RuleKey) → k ≢ n → with_rule_place (with_rule_place rules k) n ≡ with_rule_place (with_rule_place rules n) k
+rules_either rules k n other = by (lookup (same_key k) rules) refl (lookup (same_key n) rules) refl
+  where
+    turn : n ≢ k
+    turn e = other (sym e)
+
+    by : (o : Option (Option RuleTarget)) → lookup (same_key k) rules ≡ o → (p : Option (Option RuleTarget)) → lookup (same_key n) rules ≡ p → with_rule_place (with_rule_place rules k) n ≡ with_rule_place (with_rule_place rules n) k
+    by (Some rule) first p second = rules_stood rules k n rule turn first
+    by None first (Some rule) second = sym (rules_stood rules n k rule other second)
+    by None first None second = rules_new rules k n other first second ∙ put-put key_before key_order rules k n None None other ∙ sym (rules_new rules n k turn second first)
+
+place_either : (t : TopologyState) (k : RuleKey) (j : EntryKey) → about.Rule k ≢ j → with_place (with_place t (about.Rule k)) j ≡ with_place (with_place t j) (about.Rule k)
+place_either t k (about.Rule j) other =
+    let with_rules : Rules → TopologyState = λ rules. record t { rules = rules } in
+    ap with_rules (rules_either t.rules k j (λ e. other (ap about.Rule e)))
+place_either t k (about.Denied keyspace table) other = refl
+place_either t k (about.Present keyspace table) other = refl
+
+-- the place of a rule key may as well be the last that is made
+place_last : (t : TopologyState) (k : RuleKey) (keys : List EntryKey) → All (λ j. about.Rule k ≢ j) keys → with_places (with_place t (about.Rule k)) keys ≡ with_place (with_places t keys) (about.Rule k)
+place_last t k [] others = refl
+place_last t k (j ∷ js) others =
+    ap (λ u. with_places u js) (place_either t k j (All-head (λ i. about.Rule k ≢ i) j js others))
+    ∙ place_last (with_place t j) k js (All-tail (λ i. about.Rule k ≢ i) j js others)
+
+-- no other place is one of a key
+places_apart : (t : TopologyState) (key : EntryKey) (keys : List EntryKey) → All (λ j. key ≢ j) keys → has_place (with_places t keys) key ≡ has_place t key
+places_apart t key [] others = refl
+places_apart t key (j ∷ js) others =
+    places_apart (with_place t j) key js (All-tail (λ i. key ≢ i) j js others)
+    ∙ place_elsewhere t j key (λ e. All-head (λ i. key ≢ i) j js others (sym e))
+
 -- ---- all of them
+
+-- the place of a key is made, others after it, and it is dropped
+first_back : (t : TopologyState) (k : EntryKey) (keys : List EntryKey) → All (λ j. k ≢ j) keys → (has_place t k ≡ true → holds (value_of t k) ≡ true) → without_place (with_places (with_place t k) keys) k ≡ with_places t keys
+first_back t (about.Rule k) keys others held =
+    ap (λ u. without_place u (about.Rule k)) (place_last t k keys others)
+    ∙ one_back (with_places t keys) (about.Rule k)
+    (λ there. ap holds ((same-with_places t keys).values (about.Rule k)) ∙ held (sym (places_apart t (about.Rule k) keys others) ∙ there))
+first_back t (about.Denied keyspace table) keys others held =
+    places_turned (with_place t (about.Denied keyspace table)) (about.Denied keyspace table) keys refl others
+    ∙ ap (λ u. with_places u keys) (one_back t (about.Denied keyspace table) held)
+first_back t (about.Present keyspace table) keys others held =
+    places_turned (with_place t (about.Present keyspace table)) (about.Present keyspace table) keys refl others
+    ∙ ap (λ u. with_places u keys) (one_back t (about.Present keyspace table) held)
 
 pub places_back : (t : TopologyState) (keys : List EntryKey) → AllPairs (λ a b. a ≢ b) keys → All (λ key. has_place t key ≡ true → holds (value_of t key) ≡ true) keys → without_places (with_places t keys) keys ≡ t
 places_back t [] apart held = refl
 places_back t (k ∷ keys) apart held =
     ap (λ u. without_places u keys)
-    (places_turned (with_place t k) k keys (λ i d inside. apart zero (suc i) d (omega arith) (omega arith))
-    ∙ ap (λ u. with_places u keys) (one_back t k (All-head (λ key. has_place t key ≡ true → holds (value_of t key) ≡ true) k keys held)))
+    (first_back t k keys (λ i d inside. apart zero (suc i) d (omega arith) (omega arith)) (All-head (λ key. has_place t key ≡ true → holds (value_of t key) ≡ true) k keys held))
     ∙ places_back t keys (λ i j d below inside. apart (suc i) (suc j) d (omega arith) (omega arith)) (All-tail (λ key. has_place t key ≡ true → holds (value_of t key) ≡ true) k keys held)

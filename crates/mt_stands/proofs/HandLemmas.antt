@@ -12,6 +12,8 @@ use Rattle.mt_names.proofs.SameLemmas.{same_key_decides, same_text_decides}
 use Rattle.mt_model.specs.declared.entries.Entry.TheVariants as entry
 use Rattle.mt_model.specs.declared.entries.EntryKey.{EntryKey}
 use Rattle.mt_model.specs.declared.entries.EntryKey.TheVariants as about
+use Rattle.mt_model.specs.Order.{key_before}
+use Rattle.mt_model.proofs.OrderLemmas.{put_placed-elsewhere}
 use Rattle.mt_model.specs.Topology.{HasDistinctPlaces, Keyspaces, KeyspaceState, TopologyState, cuts_at, has_place, keyspace_at, new_keyspace, value_of, with_keyspace, with_mark_place, with_new_table, with_rule, with_rule_place, with_table}
 use Rattle.mt_model.proofs.DistinctLemmas.{distinct-rules, distinct-with_keyspace, distinct-with_rule, distinct-with_table}
 use Rattle.mt_model.proofs.PlaceLemmas.{keyspace_at-stays}
@@ -186,7 +188,7 @@ rule_value_elsewhere t r target key other =
 
 rule_place_elsewhere : (t : TopologyState) (r : RuleKey) (target : Option RuleTarget) (key : EntryKey) → about.Rule r ≢ key → has_place (ruled t r target) key ≡ has_place t key
 rule_place_elsewhere t r (Some target) (about.Rule j) other =
-    is_some-set_value same_key (with_rule_place t.rules r) r j (Some target) ∙ placed_elsewhere same_key same_key_decides t.rules r j None (λ e. other (ap about.Rule e))
+    is_some-set_value same_key (with_rule_place t.rules r) r j (Some target) ∙ ap is_some (put_placed-elsewhere key_before same_key same_key_decides None t.rules r j (λ e. other (ap about.Rule e)))
 rule_place_elsewhere t r None (about.Rule j) other = ap is_some (lookup-remove_entry_elsewhere same_key same_key_decides t.rules r j (λ e. other (ap about.Rule e)))
 rule_place_elsewhere t r target (about.Denied k n) other = refl
 rule_place_elsewhere t r target (about.Present k n) other = refl

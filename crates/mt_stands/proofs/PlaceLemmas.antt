@@ -14,6 +14,8 @@ use Rattle.mt_model.specs.declared.entries.Entry.{Entry}
 use Rattle.mt_model.specs.declared.entries.Entry.TheVariants as entry
 use Rattle.mt_model.specs.declared.entries.EntryKey.{EntryKey}
 use Rattle.mt_model.specs.declared.entries.EntryKey.TheVariants as about
+use Rattle.mt_model.specs.Order.{key_before}
+use Rattle.mt_model.proofs.OrderLemmas.{put_placed-elsewhere}
 use Rattle.mt_model.specs.Part.{with_place, with_places, without_place, without_places}
 use Rattle.mt_model.specs.Topology.{HasDistinctPlaces, KeyspaceState, Keyspaces, Marks, Rules, TopologyState, has_place, is_marked, keyspace_at, rule_at, value_of, with_denied_place, with_keyspace_state, with_table_place, without_denied_place, without_mark_place, without_rule_place, without_table_place}
 use Rattle.mt_model.proofs.PlaceLemmas.{distinct-with_place, distinct-without_place, fold-keeps, keyspace_at-stays, same-without_places}
@@ -32,7 +34,7 @@ placed_elsewhere {V = V} same decides es n k v other = by (lookup (same n) es)
     by (Some found) = refl
 
 pub place_elsewhere : (t : TopologyState) (k key : EntryKey) → k ≢ key → has_place (with_place t k) key ≡ has_place t key
-place_elsewhere t (about.Rule j) (about.Rule key) other = placed_elsewhere same_key same_key_decides t.rules j key None (λ e. other (ap about.Rule e))
+place_elsewhere t (about.Rule j) (about.Rule key) other = ap is_some (put_placed-elsewhere key_before same_key same_key_decides None t.rules j key (λ e. other (ap about.Rule e)))
 place_elsewhere t (about.Rule j) (about.Denied keyspace table) other = refl
 place_elsewhere t (about.Rule j) (about.Present keyspace table) other = refl
 place_elsewhere t (about.Denied k n) (about.Rule key) other = refl

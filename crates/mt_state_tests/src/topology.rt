@@ -21,8 +21,6 @@ pub enum Call<'a> {
     Reserve(&'a str, &'a str),
     /// The part that moves `t` from `b` to `a` is released.
     Release,
-    /// That part is cleared.
-    Clear,
     /// It is asked whether `t` is denied at `b`.
     IsDenied,
     /// `t` is denied at `b`, or allowed, where that has a place. Answered is what was so before.
@@ -88,13 +86,6 @@ fn release(topology: &mut Topology) -> Result<&'static str, NameFault> {
     Ok("ok")
 }
 
-fn clear(topology: &mut Topology) -> Result<&'static str, NameFault> {
-    let source = KeyspaceName::parse("b")?;
-    let target = KeyspaceName::parse("a")?;
-    topology.clear_part(&source, &target, &[TableName::parse("t")?]);
-    Ok("ok")
-}
-
 /// What an entry of a table says.
 fn said(entry: &Entry) -> &'static str {
     match entry {
@@ -147,7 +138,6 @@ fn is_answered(topology: &mut Topology, call: Call<'_>, want: &str) -> bool {
         Call::Find(key, type_of) => return leads(topology, key, type_of, want).unwrap_or(false),
         Call::Reserve(source, target) => reserve(topology, source, target),
         Call::Release => release(topology),
-        Call::Clear => clear(topology),
         Call::IsDenied => is_denied(topology),
         Call::Deny(is_denied) => deny(topology, is_denied),
         Call::Hold(is_there) => hold(topology, is_there),
@@ -242,9 +232,8 @@ fn rows_of_look_ups(rt: HostRuntime) {
     assert_eq!(rt; first_wrong(rt.alloc(), &LOOKED_UP), None);
 }
 
-/// A part is reserved, of which one rule is there before. Places that hold something stay when it is released, and go when it is
-/// cleared, with what they hold.
-const PARTS: [(Call<'static>, &str); 25] = [
+/// A part is reserved, of which one rule is there before. Places that hold something stay when it is released.
+const PARTS: [(Call<'static>, &str); 27] = [
     (Call::Deny(true), "no place"),
     (Call::Reserve("b", "c"), "T1 NoKeyspace"),
     (Call::Set("t@replica", "b.t"), "ok"),
@@ -265,7 +254,9 @@ const PARTS: [(Call<'static>, &str); 25] = [
     (Call::Find("t", TabletType::Replica), "a.t"),
     (Call::Reserve("b", "a"), "ok"),
     (Call::Deny(true), "no"),
-    (Call::Clear, "ok"),
+    (Call::Take("t@replica"), "ok"),
+    (Call::Deny(false), "yes"),
+    (Call::Release, "ok"),
     (Call::IsDenied, "no"),
     (Call::Deny(true), "no place"),
     (Call::Find("t", TabletType::Replica), "b.t"),

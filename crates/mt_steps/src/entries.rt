@@ -143,7 +143,7 @@ fn exchange_reads(
     noted.is_present = topology.exchange_present(workflow.target(), table, true);
 }
 
-/// Writes and records the rules of the types replica and rdonly of a name, which is looked up once.
+/// Writes and records the rules of the types replica and rdonly of a name, by one call.
 fn exchange_reads_of(
     topology: &mut Topology,
     workflow: &Workflow,
@@ -209,7 +209,7 @@ fn exchange_writes(
     );
 }
 
-/// Writes and records the rule for all types of a name, and that of primary. The name is looked up once.
+/// Writes and records the rule for all types of a name, and that of primary, by one call.
 fn exchange_writes_of(
     topology: &mut Topology,
     workflow: &Workflow,

@@ -1,7 +1,7 @@
 //! What stood at the keys of a part.
 ghost use Rattle.std.specs.Prelude.{◌≡◌, ◌≢◌, ◌+◌, ◌<◌, ◌++◌};
 ghost use Rattle.std.specs.Vec.{vec_capacity, vec_len};
-ghost use Rattle.mt_places.specs.Rules.{lent_rule};
+ghost use Rattle.mt_rules.specs.Rules.{lent_rule};
 ghost use Rattle.mt_steps.specs.Records.{entries_at_rest, entries_of, found_at_rest, name_at_rest, plain_at_source, rule_recorded, side_mark, table_entries};
 
 use mt_names::{KeyspaceName, RuleKey, RuleTarget, TableName, TypeSet};

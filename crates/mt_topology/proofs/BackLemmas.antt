@@ -18,13 +18,25 @@ use Rattle.mt_names.proofs.SameLemmas.{same_text_decides}
 use Rattle.mt_model.specs.Documents.{denied_text, tables_in_order}
 use Rattle.mt_model.specs.Topology.{Keyspaces, KeyspaceState, Marks, is_denied, is_marked, keyspace_at}
 use Rattle.mt_rules.specs.Member.{unless_fault}
-use Rattle.mt_rules.proofs.KeysLemmas.{none_yet, still_none}
+use Rattle.mt_rules.proofs.KeysLemmas.{none_yet}
 use Rattle.mt_keyspace.specs.declared.load.DumpVersion.TheVariants.{Two}
 use Rattle.mt_keyspace.specs.Load.{denials_of, keyspaces_of, state_of, tables_of, with_denial, with_denial_of, with_new_denial, with_new_keyspace, with_new_mark}
 use Rattle.mt_keyspace.specs.Values.{IsNamedKeyspace, keyspace_value}
 use Rattle.mt_keyspace.proofs.DifferLemmas.{of_keyspaces, of_tables}
 use Rattle.mt_keyspace.proofs.GatherLemmas.{or-grouped}
 use Rattle.mt_topology.proofs.ShardLemmas.{shards_back}
+
+-- ---- names that aren't there yet
+
+module _ {V : Type 0} where
+  -- with an entry more, of a name that is none of these
+  still_none : (es : List (List ℕ × V)) (n : List ℕ) (v : V) (names : List (List ℕ)) → AllByRecursion (λ k. lookup (same_text k) es ≡ None) names → AllByRecursion (λ k. same_text n k ≡ false) names
+      → AllByRecursion (λ k. lookup (same_text k) (es ++ (n, v) ∷ []) ≡ None) names
+  still_none es n v [] lacks other = tt
+  still_none es n v (k ∷ names) lacks other = (
+    lookup-push_elsewhere same_text same_text_decides es n k v (λ e. true≢false (sym ((same_text_decides n k).1 e) ∙ other.0)) ∙ lacks.0,
+    still_none es n v names lacks.1 other.1,
+  )
 
 -- ---- keyspaces without denials
 
@@ -45,7 +57,7 @@ tables_back marks (n ∷ tables) named lacks distinct =
     let rest = items_of (map string tables) in
     ap (λ r. option_and_then (λ more. tables_of more rest) (option_and_then (with_new_mark marks) (unless_fault r))) (read_name-name WithDollar n named.0)
     ∙ ap (λ o. option_and_then (λ more. tables_of more rest) (if is_some o then None else Some (marks ++ (n, true) ∷ []))) lacks.0
-    ∙ tables_back (marks ++ (n, true) ∷ []) tables named.1 (still_none same_text same_text_decides marks n true tables lacks.1 distinct.0) distinct.1
+    ∙ tables_back (marks ++ (n, true) ∷ []) tables named.1 (still_none marks n true tables lacks.1 distinct.0) distinct.1
     ∙ ap Some (append_assoc marks ((n, true) ∷ []) (read_tables tables))
 
 state_back : (k : List ℕ × KeyspaceState) → IsNamedKeyspace k → IsDistinct same_text (tables_in_order k.1) → state_of Two (keyspace_value k) ≡ Some (read_state k.1)
@@ -64,7 +76,7 @@ keyspaces_back before (k ∷ ks) named tables lacks distinct =
     ap (λ r. option_and_then (λ m. keyspaces_of Two m rest) (option_and_then (λ name. option_and_then (with_new_keyspace before name) (state_of Two (keyspace_value k))) (unless_fault r))) (read_name-name Plain k.0 named.0.name)
     ∙ ap (λ s. option_and_then (λ m. keyspaces_of Two m rest) (option_and_then (with_new_keyspace before k.0) s)) (state_back k named.0 tables.0)
     ∙ ap (λ o. option_and_then (λ m. keyspaces_of Two m rest) (if is_some o then None else Some more)) lacks.0
-    ∙ keyspaces_back more ks named.1 tables.1 (still_none same_text same_text_decides before k.0 (read_state k.1) (keys_of ks) lacks.1 distinct.0) distinct.1
+    ∙ keyspaces_back more ks named.1 tables.1 (still_none before k.0 (read_state k.1) (keys_of ks) lacks.1 distinct.0) distinct.1
     ∙ ap Some (append_assoc before ((k.0, read_state k.1) ∷ []) (read_keyspaces ks))
 
 -- ---- one denial more

@@ -8,7 +8,7 @@ use Rattle.mt_names.specs.Same.{same_key}
 use Rattle.mt_model.specs.Topology.{Rules, rule_at, without_rule_place}
 use Rattle.mt_model.proofs.TopologyLemmas.{rule_at-set_here}
 
-pub remove_entry-set_value : {K V : Type 0} (test : K → Bool) (es : List (K × V)) (v : V) → remove_entry test (set_value test es v) ≡ remove_entry test es
+remove_entry-set_value : {K V : Type 0} (test : K → Bool) (es : List (K × V)) (v : V) → remove_entry test (set_value test es v) ≡ remove_entry test es
 remove_entry-set_value test [] v = refl
 remove_entry-set_value {K} {V} test (e ∷ es) v = by (remove_entry-set_value test es v) (test e.0) refl
   where

@@ -1,6 +1,5 @@
 pub mod AsciiLemmas
 pub mod BackLemmas
-pub mod ClearLemmas
 pub mod DumpLemmas
 pub mod EditLemmas
 pub mod LoadLemmas

@@ -15,7 +15,7 @@ use Rattle.mt_model.proofs.PlaceLemmas.{place_back}
 use Rattle.mt_denied.specs.declared.fault.DeniedFault.{DeniedFault}
 use Rattle.mt_denied.specs.declared.fault.DeniedFault.TheVariants as denied
 use Rattle.mt_keyspace.specs.Edits.{Edits, answer_of}
-use Rattle.mt_places.specs.Rules.{four_keys}
+use Rattle.mt_rules.specs.Rules.{four_keys}
 use Rattle.mt_topology.specs.Part.{all_made, keys_made}
 use Rattle.mt_topology.specs.declared.made.Made.{Made}
 use Rattle.mt_topology.proofs.NewLemmas.{Lack, four_apart, with_places_back}

@@ -1,26 +1,26 @@
 -- Rule keys that have no place, and have none once others have theirs.
-use Rattle.std.proofs.Common.{◌≡◌, ◌≢◌, ℕ, ◌+◌, ◌≤◌, true, false, not, List, [], ◌∷◌, ◌++◌, length, map, reverse, Option, None, Some, is_some, refl, sym, ap, ◌∙◌, append_assoc, arith}
-use Rattle.std.proofs.lemmas.List.{append-nil, length-append, reverse-append}
+use Rattle.std.proofs.Common.{◌≡◌, ◌≢◌, ℕ, ◌+◌, ◌≤◌, suc, true, false, not, List, [], ◌∷◌, length, map, reverse, Option, None, Some, is_some, fold, refl, ap, ◌∙◌, arith}
+use Rattle.std.proofs.lemmas.List.{reverse-append}
 use Rattle.std.proofs.lemmas.List.Sums.{fold-append}
 use Rattle.std.specs.List.{AllByRecursion}
 use Rattle.std.specs.Map.{lookup}
-use Rattle.std.specs.Option.{option_map_or}
 use Rattle.mt_names.specs.declared.keys.RuleKey.{RuleKey}
-use Rattle.mt_names.specs.declared.keys.RuleTarget.{RuleTarget}
 use Rattle.mt_names.specs.declared.types.TabletType.{TabletType}
 use Rattle.mt_names.specs.declared.types.TabletType.TheVariants.{Primary, Replica, Rdonly}
 use Rattle.mt_names.specs.Hashes.{type_number}
 use Rattle.mt_names.specs.Same.{same_key}
-use Rattle.mt_names.proofs.EntryLemmas.{lookup-push_elsewhere}
 use Rattle.mt_names.proofs.SameLemmas.{same_key_decides}
 use Rattle.mt_model.specs.declared.entries.EntryKey.TheVariants as about
 use Rattle.mt_model.specs.Limits.{most_rules}
+use Rattle.mt_model.specs.Order.{key_before}
+use Rattle.mt_model.proofs.OrderLemmas.{length-put_by, put_placed-elsewhere}
 use Rattle.mt_model.specs.Part.{keys_of_name, with_place, with_places, without_place, without_places}
 use Rattle.mt_model.specs.Topology.{Rules, TopologyState, has_place, with_rule_place}
 use Rattle.mt_model.proofs.PlaceLemmas.{place_back}
-use Rattle.mt_places.specs.Rules.{four_keys}
+use Rattle.mt_rules.specs.Rules.{four_keys, has_rule_place}
+use Rattle.mt_rules.proofs.RulesLemmas.{with_rule_place-new}
 use Rattle.mt_topology.specs.Edits.{lacks_rule_place}
-use Rattle.mt_topology.specs.Part.{places_refusal}
+use Rattle.mt_topology.specs.Part.{name_key, places_refusal}
 use Rattle.mt_topology.proofs.ReserveLemmas.{room_left}
 use Rattle.mt_topology.proofs.RoomLemmas.{first_free}
 
@@ -29,43 +29,21 @@ abbrev pub Lack : TopologyState → List RuleKey → Type 0
 Lack t keys = AllByRecursion (λ key. has_place t (about.Rule key) ≡ false) keys
 
 -- a place for one key is none for another
-place_elsewhere : (rules : Rules) (k j : RuleKey) → k ≢ j → is_some (lookup (same_key j) (with_rule_place rules k)) ≡ is_some (lookup (same_key j) rules)
-place_elsewhere rules k j other = by (lookup (same_key k) rules) refl
-  where
-    by : (r : Option (Option RuleTarget)) → lookup (same_key k) rules ≡ r → is_some (lookup (same_key j) (option_map_or (λ rule. rules) r (rules ++ (k, None) ∷ []))) ≡ is_some (lookup (same_key j) rules)
-    by None is = ap is_some (lookup-push_elsewhere same_key same_key_decides rules k j None other)
-    by (Some rule) is = refl
+place_elsewhere : (rules : Rules) (k j : RuleKey) → k ≢ j → has_rule_place (with_rule_place rules k) j ≡ has_rule_place rules j
+place_elsewhere rules k j other = ap is_some (put_placed-elsewhere key_before same_key same_key_decides None rules k j other)
 
 -- nor are places for several others
-pub lacks_later : (t : TopologyState) (keys : List RuleKey) (j : RuleKey) → AllByRecursion (λ k. k ≢ j) keys → has_place t (about.Rule j) ≡ false → has_place (with_places t (map about.Rule keys)) (about.Rule j) ≡ false
+lacks_later : (t : TopologyState) (keys : List RuleKey) (j : RuleKey) → AllByRecursion (λ k. k ≢ j) keys → has_place t (about.Rule j) ≡ false → has_place (with_places t (map about.Rule keys)) (about.Rule j) ≡ false
 lacks_later t [] j others lacks = lacks
 lacks_later t (k ∷ keys) j others lacks = lacks_later (with_place t (about.Rule k)) keys j others.1 (place_elsewhere t.rules k j others.0 ∙ lacks)
 
-pub lack_later : (t : TopologyState) (keys js : List RuleKey) → AllByRecursion (λ j. AllByRecursion (λ k. k ≢ j) keys) js → Lack t js → Lack (with_places t (map about.Rule keys)) js
+lack_later : (t : TopologyState) (keys js : List RuleKey) → AllByRecursion (λ j. AllByRecursion (λ k. k ≢ j) keys) js → Lack t js → Lack (with_places t (map about.Rule keys)) js
 lack_later t keys [] others lack = tt
 lack_later t keys (j ∷ js) others lack = (lacks_later t keys j others.0 lack.0, lack_later t keys js others.1 lack.1)
 
--- of a table without a place none of a name's keys has one
-pub name_lacks : (t : TopologyState) (keyspace : Option (List ℕ)) (table : List ℕ) → ((key : RuleKey) → key.table ≡ table → has_place t (about.Rule key) ≡ false) → Lack t (keys_of_name keyspace table)
-name_lacks t keyspace table lacks = (
-  lacks (record { keyspace = keyspace; table = table; tablet_type = None }) refl,
-  (
-    lacks (record { keyspace = keyspace; table = table; tablet_type = Some Primary }) refl,
-    (lacks (record { keyspace = keyspace; table = table; tablet_type = Some Replica }) refl, (lacks (record { keyspace = keyspace; table = table; tablet_type = Some Rdonly }) refl, tt)),
-  ),
-)
-
--- ---- keys of two names
-
-other_keyspace : (k j : RuleKey) → k.keyspace ≢ j.keyspace → k ≢ j
-other_keyspace k j other e = other (ap (λ (key : RuleKey). key.keyspace) e)
-
--- none of one is one of the other
-pub names_apart : (a b : Option (List ℕ)) (table : List ℕ) → a ≢ b → AllByRecursion (λ j. AllByRecursion (λ k. k ≢ j) (keys_of_name a table)) (keys_of_name b table)
-names_apart a b table other = (each _ refl, (each _ refl, (each _ refl, (each _ refl, tt))))
-  where
-    each : (j : RuleKey) → j.keyspace ≡ b → AllByRecursion (λ k. k ≢ j) (keys_of_name a table)
-    each j is = let apart : (k : RuleKey) → k.keyspace ≡ a → k ≢ j = λ k at. other_keyspace k j (λ e. other (sym at ∙ e ∙ is)) in (apart _ refl, (apart _ refl, (apart _ refl, (apart _ refl, tt))))
+-- of a name that isn't there none of its keys has one
+pub name_lacks : (t : TopologyState) (keyspace : Option (List ℕ)) (table : List ℕ) → ((type : Option TabletType) → lookup (same_key (name_key keyspace table type)) t.rules ≡ None) → Lack t (keys_of_name keyspace table)
+name_lacks t keyspace table none = (ap is_some (none None), (ap is_some (none (Some Primary)), (ap is_some (none (Some Replica)), (ap is_some (none (Some Rdonly)), tt))))
 
 -- ---- rule keys that are made one after the other
 
@@ -92,21 +70,10 @@ four_apart name =
 lack_next : (t : TopologyState) (k : RuleKey) (keys : List RuleKey) → IsApart (k ∷ keys) → Lack t (k ∷ keys) → Lack (with_place t (about.Rule k)) keys
 lack_next t k keys apart lack = lack_later t (k ∷ []) keys apart.0 lack.1
 
--- the rules of a topology once a key has a place that had none
-rules_next : (t : TopologyState) (k : RuleKey) → has_place t (about.Rule k) ≡ false → (with_place t (about.Rule k)).rules ≡ t.rules ++ (k, None) ∷ []
-rules_next t k lacks = by (lookup (same_key k) t.rules) lacks
-  where
-    by : (r : Option (Option RuleTarget)) → is_some r ≡ false → option_map_or (λ rule. t.rules) r (t.rules ++ (k, None) ∷ []) ≡ t.rules ++ (k, None) ∷ []
-    by None e = refl
-    by (Some rule) e = absurd cc
-
--- they stand behind the others
-pub with_places_new : (t : TopologyState) (keys : List RuleKey) → IsApart keys → Lack t keys → with_places t (map about.Rule keys) ≡ record t { rules = t.rules ++ map (λ key. (key, None)) keys }
-with_places_new t [] apart lack = ap (λ rules. record t { rules = rules }) (sym (append-nil t.rules))
-with_places_new t (k ∷ keys) apart lack =
-    with_places_new (with_place t (about.Rule k)) keys apart.1 (lack_next t k keys apart lack)
-    ∙ ap (λ rules. record t { rules = rules ++ map (λ key. (key, None)) keys }) (rules_next t k lack.0)
-    ∙ ap (λ rules. record t { rules = rules }) (append_assoc t.rules ((k, None) ∷ []) (map (λ key. (key, None)) keys))
+-- the places of rules are made among the rules
+pub with_places-rules : (t : TopologyState) (keys : List RuleKey) → with_places t (map about.Rule keys) ≡ record t { rules = fold with_rule_place t.rules keys }
+with_places-rules t [] = refl
+with_places-rules t (k ∷ keys) = with_places-rules (with_place t (about.Rule k)) keys
 
 -- and are taken back from the last one on
 pub with_places_back : (t : TopologyState) (keys : List RuleKey) → IsApart keys → Lack t keys → without_places (with_places t (map about.Rule keys)) (reverse (map about.Rule keys)) ≡ t
@@ -124,6 +91,6 @@ room_for_new t (k ∷ keys) apart lack free within =
     let lacks : lacks_rule_place t.rules k ≡ true = ap not lack.0 in
     let free_first = first_free t (about.Rule k) (map about.Rule keys) free in
     let room = room_left t.rules k lacks free_first.0 within in
-    let next = ap length (rules_next t k lack.0) ∙ length-append t.rules ((k, None) ∷ []) in
+    let next : length (with_rule_place t.rules k) ≡ suc (length t.rules) = ap length (with_rule_place-new t.rules k lack.0) ∙ length-put_by key_before t.rules (k, None) in
     let rest = room_for_new (with_place t (about.Rule k)) keys apart.1 (lack_next t k keys apart lack) (free_first.1 (with_place t (about.Rule k)) refl) (omega (arith, next, room)) in
     omega (arith, rest, next)

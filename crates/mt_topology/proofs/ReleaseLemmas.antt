@@ -24,7 +24,7 @@ module _ {A B : Type 0} (f : B → A → B) (turned : (b : B) (x y : A) → f (f
   one_last b x [] = refl
   one_last b x (y ∷ ys) = ap (λ c. fold f c ys) (turned b x y) ∙ one_last (f b y) x ys
 
-  pub all_last : (b : B) (xs ys : List A) → fold f (fold f b xs) ys ≡ fold f (fold f b ys) xs
+  all_last : (b : B) (xs ys : List A) → fold f (fold f b xs) ys ≡ fold f (fold f b ys) xs
   all_last b [] ys = refl
   all_last b (x ∷ xs) ys = all_last (f b x) xs ys ∙ ap (λ c. fold f c xs) (one_last b x ys)
 
@@ -37,11 +37,11 @@ module _ {A B : Type 0} (f : B → A → B) (turned : (b : B) (x y : A) → f (f
 
 module _ {K V : Type 0} (same : K → K → Bool) (decides : (a b : K) → Decides (same a b) (a ≡ b)) (keeps : V → Bool) where
   -- without the first entry of the key, unless its value is kept
-  abbrev pub dropped : List (K × V) → K → List (K × V)
+  abbrev dropped : List (K × V) → K → List (K × V)
   dropped [] k = []
   dropped (e ∷ es) k = cond (same k e.0) (cond (keeps e.1) (e ∷ es) es) (e ∷ dropped es k)
 
-  pub dropped_turned : (es : List (K × V)) (a b : K) → dropped (dropped es a) b ≡ dropped (dropped es b) a
+  dropped_turned : (es : List (K × V)) (a b : K) → dropped (dropped es a) b ≡ dropped (dropped es b) a
   dropped_turned [] a b = refl
   dropped_turned (e ∷ es) a b = by (dropped_turned es a b) (same a e.0) refl (same b e.0) refl (keeps e.1) refl
     where
@@ -98,11 +98,11 @@ marks_turned marks a b =
 -- ---- two keyspaces changed, or one twice
 
 -- the first of the name changed
-abbrev pub changed : (KeyspaceState → KeyspaceState) → Keyspaces → List ℕ → Keyspaces
+abbrev changed : (KeyspaceState → KeyspaceState) → Keyspaces → List ℕ → Keyspaces
 changed change [] name = []
 changed change (k ∷ ks) name = cond (same_text name k.0) ((k.0, change k.1) ∷ ks) (k ∷ changed change ks name)
 
-pub is_changed : (change : KeyspaceState → KeyspaceState) (ks : Keyspaces) (name : List ℕ) → with_keyspace_state change ks name ≡ changed change ks name
+is_changed : (change : KeyspaceState → KeyspaceState) (ks : Keyspaces) (name : List ℕ) → with_keyspace_state change ks name ≡ changed change ks name
 is_changed change [] name = refl
 is_changed change (k ∷ ks) name = by (is_changed change ks name) (same_text name k.0) refl
   where
@@ -125,7 +125,7 @@ module _ (f g : KeyspaceState → KeyspaceState) (turned : (state : KeyspaceStat
       by again false s true t = rw (s, t, s) refl
       by again false s false t = rw (s, t, s) (ap (λ l. k ∷ l) again)
 
-  pub keyspaces_turned : (ks : Keyspaces) (a b : List ℕ) → with_keyspace_state g (with_keyspace_state f ks a) b ≡ with_keyspace_state f (with_keyspace_state g ks b) a
+  keyspaces_turned : (ks : Keyspaces) (a b : List ℕ) → with_keyspace_state g (with_keyspace_state f ks a) b ≡ with_keyspace_state f (with_keyspace_state g ks b) a
   keyspaces_turned ks a b =
       is_changed g (with_keyspace_state f ks a) b ∙ ap (λ l. changed g l b) (is_changed f ks a) ∙ changed_turned ks a b
       ∙ ap (λ l. changed f l a) (sym (is_changed g ks b)) ∙ sym (is_changed f (with_keyspace_state g ks b) a)
@@ -156,24 +156,12 @@ module _ (f : TopologyState → EntryKey → TopologyState) (turned : (t : Topol
   last_first t new keys last is = ap (λ u. fold f u keys) is ∙ all_last f turned t last keys ∙ sym (fold-append f t keys last)
 
   -- the last table that is left, and those before it
-  pub keys_less : (keys_of : List ℕ → List EntryKey) (t now new : TopologyState) (tables left less : List (List ℕ)) (table : List ℕ) (keys : List EntryKey) → left ≡ less ++ table ∷ [] → keys ≡ keys_of table
+  keys_less : (keys_of : List ℕ → List EntryKey) (t now new : TopologyState) (tables left less : List (List ℕ)) (table : List ℕ) (keys : List EntryKey) → left ≡ less ++ table ∷ [] → keys ≡ keys_of table
       → new ≡ fold f now keys → fold f now (flat_map keys_of left) ≡ fold f t (flat_map keys_of tables) → fold f new (flat_map keys_of less) ≡ fold f t (flat_map keys_of tables)
   keys_less keys_of t now new tables left less table keys split all is before =
       let more : flat_map keys_of left ≡ flat_map keys_of less ++ keys =
       ap (flat_map keys_of) split ∙ flat_map-append keys_of less (table ∷ []) ∙ ap (λ k. flat_map keys_of less ++ k) (append-nil (keys_of table) ∙ sym all) in
       last_first now new (flat_map keys_of less) keys is ∙ ap (fold f now) (sym more) ∙ before
-
-  -- of keys in two parts, all of the first before all of the second
-  pub parts_apart : {X : Type 0} (one other : X → List EntryKey) (t : TopologyState) (xs : List X) → fold f (fold f t (flat_map one xs)) (flat_map other xs) ≡ fold f t (flat_map (λ x. one x ++ other x) xs)
-  parts_apart one other t [] = refl
-  parts_apart one other t (x ∷ xs) =
-      let u = fold f t (one x) in
-      ap (λ w. fold f w (other x ++ flat_map other xs)) (fold-append f t (one x) (flat_map one xs))
-      ∙ fold-append f (fold f u (flat_map one xs)) (other x) (flat_map other xs)
-      ∙ ap (λ w. fold f w (flat_map other xs)) (all_last f turned u (flat_map one xs) (other x))
-      ∙ parts_apart one other (fold f u (other x)) xs
-      ∙ ap (λ w. fold f w (flat_map (λ y. one y ++ other y) xs)) (sym (fold-append f t (one x) (other x)))
-      ∙ sym (fold-append f t (one x ++ other x) (flat_map (λ y. one y ++ other y) xs))
 
 -- the places of the last table that is left, and of those before it
 pub table_less : (t now new : TopologyState) (source target : List ℕ) (tables left less : List (List ℕ)) (table : List ℕ) (keys : List EntryKey) → left ≡ less ++ table ∷ [] → keys ≡ table_part_keys source target table

@@ -16,7 +16,7 @@ use Rattle.mt_names.specs.Same.{same_key}
 use Rattle.mt_model.specs.declared.entries.EntryKey.{EntryKey}
 use Rattle.mt_model.specs.declared.entries.EntryKey.TheVariants as about
 use Rattle.mt_model.specs.Part.{part_keys, table_part_keys, table_rule_keys, with_place, with_places}
-use Rattle.mt_model.specs.Topology.{TopologyState, Keyspaces, KeyspaceState, Marks, Rules, has_place, keyspace_at, with_keyspace_state, with_mark_place, with_rule_place, with_table_place, with_denied_place}
+use Rattle.mt_model.specs.Topology.{TopologyState, Keyspaces, KeyspaceState, Marks, Rules, has_place, keyspace_at, put_rule, with_keyspace_state, with_mark_place, with_rule_place, with_table_place, with_denied_place}
 use Rattle.mt_model.specs.declared.faults.TopologyFault.TheVariants.{Full}
 use Rattle.mt_model.specs.Limits.{most_rules}
 use Rattle.mt_topology.specs.Edits.{lacks_rule_place, rule_place_refusal}
@@ -31,10 +31,10 @@ marks_there marks name there = by (lookup (same_text name) marks) there
     by None e = absurd (true≢false (sym e))
     by (Some mark) e = refl
 
-rules_there : (rules : Rules) (key : RuleKey) → is_some (lookup (same_key key) rules) ≡ true → with_rule_place rules key ≡ rules
+pub rules_there : (rules : Rules) (key : RuleKey) → is_some (lookup (same_key key) rules) ≡ true → with_rule_place rules key ≡ rules
 rules_there rules key there = by (lookup (same_key key) rules) there
   where
-    by : (r : Option (Option RuleTarget)) → is_some r ≡ true → option_map_or (λ rule. rules) r (rules ++ (key, None) ∷ []) ≡ rules
+    by : (r : Option (Option RuleTarget)) → is_some r ≡ true → option_map_or (λ rule. rules) r (put_rule rules (key, None)) ≡ rules
     by None e = absurd (true≢false (sym e))
     by (Some rule) e = refl
 

@@ -1,5 +1,5 @@
 -- Where there is room for a part, each of its places is made in turn, out of memory aside.
-use Rattle.std.proofs.Common.{◌≡◌, inl, inr, fold, ◌⊎◌, ℕ, ◌+◌, ◌<◌, ◌≤◌, ◌==◌, ◌&&◌, ◌||◌, Bool, true, false, not, nat_lt, List, [], ◌∷◌, ◌++◌, map, length, filter, Option, None, Some, is_some, append_assoc, refl, sym, ap, subst, ◌∙◌, arith}
+use Rattle.std.proofs.Common.{◌≡◌, inl, inr, fold, ◌⊎◌, ℕ, suc, ◌+◌, ◌<◌, ◌≤◌, ◌==◌, ◌&&◌, ◌||◌, Bool, true, false, not, nat_lt, List, [], ◌∷◌, ◌++◌, map, length, filter, Option, None, Some, is_some, append_assoc, refl, sym, ap, subst, ◌∙◌, arith}
 use Rattle.std.proofs.lemmas.Bool.{ltb-false, ne_eqb, true≢false}
 use Rattle.std.proofs.lemmas.Grind.{flat_map-append}
 use Rattle.std.proofs.lemmas.List.{length-append}
@@ -8,6 +8,7 @@ use Rattle.std.specs.Bool.{Decides}
 use Rattle.std.specs.List.{AllByRecursion, flat_map, list_any}
 use Rattle.std.specs.Map.{lookup}
 use Rattle.std.specs.Option.{option_map_or}
+use Rattle.mt_names.specs.declared.keys.RuleKey.{RuleKey}
 use Rattle.mt_names.specs.Names.{same_text}
 use Rattle.mt_names.specs.Same.{same_key}
 use Rattle.mt_names.proofs.EntryLemmas.{other_from, same_itself}
@@ -19,13 +20,19 @@ use Rattle.mt_model.specs.declared.faults.TopologyFault.{TopologyFault}
 use Rattle.mt_model.specs.declared.faults.TopologyFault.TheVariants.{NoKeyspace}
 use Rattle.mt_model.specs.Limits.{most_rules, most_tables_in_keyspace}
 use Rattle.mt_model.specs.Part.{part_keys, table_part_keys, table_rule_keys, with_place}
-use Rattle.mt_model.specs.Topology.{TopologyState, Keyspaces, KeyspaceState, Marks, keyspace_at, with_keyspace_state, with_denied_place, with_table_place}
+use Rattle.mt_model.specs.Topology.{TopologyState, Keyspaces, KeyspaceState, Marks, Rules, keyspace_at, with_keyspace_state, with_denied_place, with_rule_place, with_table_place}
+use Rattle.mt_model.specs.Order.{key_before}
+use Rattle.mt_model.proofs.OrderLemmas.{length-put_by, put_placed-stays, put_placed-there}
 use Rattle.mt_model.proofs.PlaceLemmas.{place-push}
 use Rattle.mt_model.proofs.TopologyLemmas.{keyspace_at-changed_elsewhere, keyspace_at-changed_here}
+use Rattle.mt_rules.specs.Rules.{has_rule_place}
+use Rattle.mt_rules.proofs.RulesLemmas.{with_rule_place-new}
 use Rattle.mt_keyspace.specs.Edits.{refusal_at}
 use Rattle.mt_keyspace.specs.Room.{lacking_marks, mark_place_refusal}
 use Rattle.mt_keyspace.proofs.LoadLemmas.{all-append}
+use Rattle.mt_topology.specs.Edits.{lacks_rule_place}
 use Rattle.mt_topology.specs.Part.{has_part_room, lacking_rules, place_refusal, places_refusal, reserve_refusal}
+use Rattle.mt_topology.proofs.ReserveLemmas.{rules_there}
 
 -- ---- how many names lack a place
 
@@ -67,24 +74,26 @@ module _ {K : Type 0} (same : K → K → Bool) (decides : (a b : K) → Decides
       here true = refl
       here false = rw (same_itself same decides k) refl
 
+has_one : (b : Bool) → not b ≡ false → b ≡ true
+has_one true e = refl
+has_one false e = absurd (true≢false e)
+
 module _ {K V : Type 0} (same : K → K → Bool) (decides : (a b : K) → Decides (same a b) (a ≡ b)) where
   abbrev lacks : List (K × V) → K → Bool
   lacks es k = not (is_some (lookup (same k) es))
 
-  abbrev placed : List (K × V) → K → V → List (K × V)
-  placed es k blank = option_map_or (λ old. es) (lookup (same k) es) (es ++ (k, blank) ∷ [])
-
   -- a place more leaves one name less that lacks it
-  fits-placed : (es : List (K × V)) (k : K) (blank : V) (ks : List K) (most : ℕ) → list_any (same k) ks ≡ true → length es + length (filter (lacks es) ks) ≤ most
-      → length (placed es k blank) + length (filter (lacks (placed es k blank)) ks) ≤ most
-  fits-placed es k blank ks most among fits = by (lookup (same k) es) refl
+  fits-made : (es more : List (K × V)) (k : K) (ks : List K) (most : ℕ) → list_any (same k) ks ≡ true → lacks es k ≡ true → lacks more k ≡ false → ((x : K) → lacks es x ≡ false → lacks more x ≡ false) → length more ≡ suc (length es)
+      → length es + length (filter (lacks es) ks) ≤ most → length more + length (filter (lacks more) ks) ≤ most
+  fits-made es more k ks most among none made kept longer fits = let less = less_by_one same decides (lacks es) (lacks more) kept k none made ks among in omega (arith, fits, less, longer)
+
+  -- that of a place at the end
+  fits-pushed : (es : List (K × V)) (k : K) (blank : V) (ks : List K) (most : ℕ) → list_any (same k) ks ≡ true → length es + length (filter (lacks es) ks) ≤ most
+      → length (option_map_or (λ old. es) (lookup (same k) es) (es ++ (k, blank) ∷ [])) + length (filter (lacks (option_map_or (λ old. es) (lookup (same k) es) (es ++ (k, blank) ∷ []))) ks) ≤ most
+  fits-pushed es k blank ks most among fits = by (lookup (same k) es) refl
     where
       kept : (x : K) → lacks es x ≡ false → lacks (es ++ (k, blank) ∷ []) x ≡ false
-      kept x e = ap not (place-push (same x) es (k, blank) (there (is_some (lookup (same x) es)) e))
-        where
-          there : (b : Bool) → not b ≡ false → b ≡ true
-          there true e = refl
-          there false e = absurd (true≢false e)
+      kept x e = ap not (place-push (same x) es (k, blank) (has_one (is_some (lookup (same x) es)) e))
 
       last : (xs : List (K × V)) → lacks (xs ++ (k, blank) ∷ []) k ≡ false
       last [] = rw (same_itself same decides k) refl
@@ -94,11 +103,12 @@ module _ {K V : Type 0} (same : K → K → Bool) (decides : (a b : K) → Decid
           here again true t = rw t refl
           here again false t = rw t again
 
+      longer : length (es ++ (k, blank) ∷ []) ≡ suc (length es)
+      longer = let is = length-append es ((k, blank) ∷ []) in omega (arith, is)
+
       by : (r : Option V) → lookup (same k) es ≡ r → length (option_map_or (λ old. es) r (es ++ (k, blank) ∷ [])) + length (filter (lacks (option_map_or (λ old. es) r (es ++ (k, blank) ∷ []))) ks) ≤ most
       by (Some old) some = fits
-      by None none =
-          let less = less_by_one same decides (lacks es) (lacks (es ++ (k, blank) ∷ [])) kept k (ap (λ r. not (is_some r)) none) (last es) ks among in
-          omega (arith, fits, less, length-append es ((k, blank) ∷ []))
+      by None none = fits-made es (es ++ (k, blank) ∷ []) k ks most among (ap (λ r. not (is_some r)) none) (last es) kept longer fits
 
   -- where a name lacks a place there is room for it
   room_for_one : (es : List (K × V)) (k : K) (ks : List K) (most : ℕ) → list_any (same k) ks ≡ true → length es + length (filter (lacks es) ks) ≤ most → (lacks es k && (length es == most)) ≡ false
@@ -143,22 +153,35 @@ IsOf source target tables (about.Rule key) = list_any (same_key key) (flat_map (
 IsOf source target tables (about.Denied keyspace table) = ((keyspace ≡ source) ⊎ (keyspace ≡ target)) × (list_any (same_text table) tables ≡ true)
 IsOf source target tables (about.Present keyspace table) = (keyspace ≡ target) × (list_any (same_text table) tables ≡ true)
 
+-- a rule's place in the order of the keys leaves room likewise
+rules_fit : (rules : Rules) (key : RuleKey) (keys : List RuleKey) → list_any (same_key key) keys ≡ true → length rules + lacking_rules rules keys ≤ most_rules → length (with_rule_place rules key) + lacking_rules (with_rule_place rules key) keys ≤ most_rules
+rules_fit rules key keys among fits = by (has_rule_place rules key) refl
+  where
+    kept : (x : RuleKey) → lacks_rule_place rules x ≡ false → lacks_rule_place (with_rule_place rules key) x ≡ false
+    kept x e = ap not (put_placed-stays key_before same_key same_key_decides None rules key x (has_one (has_rule_place rules x) e))
+
+    by : (b : Bool) → has_rule_place rules key ≡ b → length (with_rule_place rules key) + lacking_rules (with_rule_place rules key) keys ≤ most_rules
+    by true there = subst (λ l. length l + lacking_rules l keys ≤ most_rules) (sym (rules_there rules key there)) fits
+    by false none =
+        fits-made same_key same_key_decides rules (with_rule_place rules key) key keys most_rules among (ap not none) (ap not (put_placed-there key_before same_key same_key_decides None rules key)) kept
+        (ap length (with_rule_place-new rules key none) ∙ length-put_by key_before rules (key, None)) fits
+
 has_room-kept : (t : TopologyState) (source target : List ℕ) (tables : List (List ℕ)) (key : EntryKey) → HasRoom t source target tables → IsOf source target tables key → HasRoom (with_place t key) source target tables
 has_room-kept t source target tables (about.Rule key) room is = record {
-  rules = fits-placed same_key same_key_decides t.rules key None (flat_map (table_rule_keys source target) tables) most_rules is room.rules;
+  rules = rules_fit t.rules key (flat_map (table_rule_keys source target) tables) is room.rules;
   at_source = room.at_source;
   at_target = room.at_target;
   for_tables = room.for_tables;
 }
 has_room-kept t source target tables (about.Denied keyspace table) room is =
-    let keeps : (state : KeyspaceState) → Fits state.denied tables → Fits (with_denied_place table state).denied tables = λ state fits. fits-placed same_text same_text_decides state.denied table false tables most_tables_in_keyspace is.1 fits in record {
+    let keeps : (state : KeyspaceState) → Fits state.denied tables → Fits (with_denied_place table state).denied tables = λ state fits. fits-pushed same_text same_text_decides state.denied table false tables most_tables_in_keyspace is.1 fits in record {
       rules = room.rules;
       at_source = room-changed (λ state. state.denied) (with_denied_place table) t.keyspaces keyspace source tables keeps room.at_source;
       at_target = room-changed (λ state. state.denied) (with_denied_place table) t.keyspaces keyspace target tables keeps room.at_target;
       for_tables = room-changed (λ state. state.tables) (with_denied_place table) t.keyspaces keyspace target tables (λ state fits. fits) room.for_tables;
     }
 has_room-kept t source target tables (about.Present keyspace table) room is =
-    let keeps : (state : KeyspaceState) → Fits state.tables tables → Fits (with_table_place table state).tables tables = λ state fits. fits-placed same_text same_text_decides state.tables table false tables most_tables_in_keyspace is.1 fits in record {
+    let keeps : (state : KeyspaceState) → Fits state.tables tables → Fits (with_table_place table state).tables tables = λ state fits. fits-pushed same_text same_text_decides state.tables table false tables most_tables_in_keyspace is.1 fits in record {
       rules = room.rules;
       at_source = room-changed (λ state. state.denied) (with_table_place table) t.keyspaces keyspace source tables (λ state fits. fits) room.at_source;
       at_target = room-changed (λ state. state.denied) (with_table_place table) t.keyspaces keyspace target tables (λ state fits. fits) room.at_target;

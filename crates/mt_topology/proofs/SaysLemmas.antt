@@ -1,5 +1,5 @@
 -- What is dumped is loaded again.
-use Rattle.std.proofs.Common.{◌≡◌, ◌≤◌, ℕ, suc, max, ◌||◌, nat_lt, Bool, true, false, if◌then◌else◌, List, [], ◌∷◌, map, flat_map, fold, length, Option, None, Some, is_some, unwrap_or, option_map, option_and_then, Ok, Err, IsUtf8, refl, sym, ap, subst, ◌∙◌, arith}
+use Rattle.std.proofs.Common.{◌≡◌, ◌+◌, ◌≤◌, ℕ, suc, max, ◌||◌, nat_lt, Bool, true, false, if◌then◌else◌, List, [], ◌∷◌, map, flat_map, fold, length, Option, None, Some, is_some, unwrap_or, option_map, option_and_then, Ok, Err, IsUtf8, refl, sym, ap, subst, ◌∙◌, arith}
 use Rattle.std.proofs.lemmas.Bool.{true≢false, le-ltb}
 use Rattle.std.proofs.lemmas.List.{length-map}
 use Rattle.std.proofs.lemmas.List.Elements.{recursion_from_All}
@@ -23,10 +23,12 @@ use Rattle.mt_model.specs.declared.entries.EntryKey.TheVariants as about
 use Rattle.mt_model.specs.declared.faults.TopologyFault.TheVariants.{BadDump, Full}
 use Rattle.mt_model.specs.Limits.{most_keyspaces, most_rules, most_tables_in_keyspace}
 use Rattle.mt_model.specs.Documents.{denied_sorted, denied_text, denied_texts, keyspaces_in_order, marked, put_by_text, shard_texts, sorted_rules, tables_in_order}
-use Rattle.mt_model.specs.Topology.{HasDistinctPlaces, Keyspaces, KeyspaceState, Marks, Rules, TopologyState, cuts_at, is_denied, is_marked, is_present, keyspace_at, rule_at, value_of}
+use Rattle.mt_model.specs.Topology.{HasDistinctPlaces, Keyspaces, KeyspaceState, Marks, Rules, TopologyState, cuts_at, is_denied, is_marked, is_present, keyspace_at, put_rule, rule_at, value_of}
+use Rattle.mt_model.specs.Order.{key_before}
+use Rattle.mt_model.proofs.OrderLemmas.{length-put_by}
 use Rattle.mt_model.proofs.TopologyLemmas.{found_at, tables_distinct}
 use Rattle.mt_rules.specs.Values.{ruled, rule_value}
-use Rattle.mt_rules.proofs.BackLemmas.{not_deep, rules_read_back}
+use Rattle.mt_rules.proofs.BackLemmas.{not_deep, put_all, rule_at-read_back, rules_read_back}
 use Rattle.mt_rules.proofs.KeysLemmas.{none_yet}
 use Rattle.mt_rules.proofs.ReadLemmas.{value_of_text-some}
 use Rattle.mt_keyspace.specs.declared.load.DumpVersion.TheVariants.{Two}
@@ -279,8 +281,12 @@ few_read (k ∷ ks) named =
     let same : length (read_tables (tables_in_order k.1)) ≡ length (tables_in_order k.1) = length-map (tables_in_order k.1) (λ table. (table, true)) in
     rw (le-ltb most_tables_in_keyspace (length (read_tables (tables_in_order k.1))) (omega (arith, few, short, sorted, same))) (few_read ks named.1)
 
+length-put_all : (acc rules : Rules) → length (put_all acc rules) ≡ length acc + length rules
+length-put_all acc [] = omega arith
+length-put_all acc (r ∷ rules) = let rest = length-put_all (put_rule acc r) rules in let more = length-put_by key_before acc r in omega (arith, rest, more)
+
 small : (t : TopologyState) → IsNamedTopology t → length t.keyspaces ≤ most_keyspaces → (new : Keyspaces) → tables_alone new ≡ tables_alone (read_keyspaces (keyspaces_in_order t))
-    → is_too_large (record { rules = ruled (sorted_rules t.rules); keyspaces = new }) ≡ false
+    → is_too_large (record { rules = put_all [] (ruled (sorted_rules t.rules)); keyspaces = new }) ≡ false
 small t named within new same =
     let rules_few = named.few in
     let rules_short = named.rules.few in
@@ -290,7 +296,8 @@ small t named within new same =
     let alone_read : length (tables_alone (read_keyspaces (keyspaces_in_order t))) ≡ length (read_keyspaces (keyspaces_in_order t)) = length-map (read_keyspaces (keyspaces_in_order t)) (λ k. (k.0, k.1.tables)) in
     let alone_new : length (tables_alone new) ≡ length new = length-map new (λ k. (k.0, k.1.tables)) in
     let alone = ap length same in
-    let no_rules : nat_lt most_rules (length (ruled (sorted_rules t.rules))) ≡ false = le-ltb most_rules (length (ruled (sorted_rules t.rules))) (omega (arith, rules_few, rules_short, rules_same)) in
+    let rules_put = length-put_all [] (ruled (sorted_rules t.rules)) in
+    let no_rules : nat_lt most_rules (length (put_all [] (ruled (sorted_rules t.rules)))) ≡ false = le-ltb most_rules (length (put_all [] (ruled (sorted_rules t.rules)))) (omega (arith, rules_few, rules_short, rules_same, rules_put)) in
     let no_keyspace : nat_lt most_keyspaces (length new) ≡ false = le-ltb most_keyspaces (length new) (omega (arith, within, ordered, read_same, alone_read, alone_new, alone)) in
     let no_table : list_any has_too_many_tables new ≡ false =
     many_alone new ∙ ap (list_any (λ e. nat_lt most_tables_in_keyspace (length e.1))) same ∙ sym (many_alone (read_keyspaces (keyspaces_in_order t))) ∙ few_read (keyspaces_in_order t) named.keyspaces in
@@ -327,11 +334,11 @@ pub dump_says : (t : TopologyState) (d : Data) (text : List ℕ) → d ≡ dump_
 dump_says t d text is distinct named within valid back there =
     let names = names_in t named in
     let made = made_of t distinct named there in
-    let found : TopologyState = record { rules = ruled (sorted_rules t.rules); keyspaces = made.new } in
+    let found : TopologyState = record { rules = put_all [] (ruled (sorted_rules t.rules)); keyspaces = made.new } in
     let shallow : depth d ≤ max_depth = let deep = ap depth is in let bound = not_deep_with keyspace_value keyspace_depth 2 t in omega (arith, deep, bound) in
     let whole : whole_topology (dump_value t) ≡ Some found =
     ap (λ o. option_and_then (λ rules. option_map (λ keyspaces. record { rules = rules; keyspaces = keyspaces }) (keyspaces_in Two (dump_value t))) o) (rules_read_back t.rules named.rules)
-    ∙ ap (option_map (λ keyspaces. record { rules = ruled (sorted_rules t.rules); keyspaces = keyspaces })) (keyspaces_read t distinct named made) in
+    ∙ ap (option_map (λ keyspaces. record { rules = put_all [] (ruled (sorted_rules t.rules)); keyspaces = keyspaces })) (keyspaces_read t distinct named made) in
     let within_it : within_limits found ≡ Ok found = ap (λ b. if b then Err Full else Ok found) (small t named within made.new made.tables) in (
       found,
       ap (λ v. option_map_or within_limits (option_and_then whole_topology v) (Err BadDump)) (value_of_text-some text d valid (back shallow))
@@ -340,7 +347,7 @@ dump_says t d text is distinct named within valid back there =
       record {
         keyspaces = some_made t distinct names there made;
         shards = cuts_made t distinct names there made;
-        values = λ key. by (ruled (sorted_rules t.rules)) made.new named.rules.says (denied_made t distinct names there made) (present_made t distinct names there made) key;
+        values = λ key. by (put_all [] (ruled (sorted_rules t.rules))) made.new (rule_at-read_back t.rules named.rules) (denied_made t distinct names there made) (present_made t distinct names there made) key;
       },
     )
   where

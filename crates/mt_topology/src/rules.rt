@@ -4,7 +4,6 @@ ghost use Rattle.std.specs.List.{list_any};
 ghost use Rattle.mt_model.specs.Part.{keys_of_name};
 ghost use Rattle.mt_model.specs.Topology.{rule_for, with_rule, with_rule_place, without_rule_place};
 ghost use Rattle.mt_keyspace.specs.Edits.{Edits};
-ghost use Rattle.mt_topology.specs.Clear.{without_rule_entry};
 ghost use Rattle.mt_topology.specs.Edits.{edit_rule_grows, edit_rule_refusal, lacks_rule_place, rule_place_refusal};
 
 use mt_model::{TopologyFault, key_of_name};
@@ -88,25 +87,9 @@ pub fn lacks_name(rules: &RoutingRules, keyspace: Option<&KeyspaceName>, table: 
     !rules.has_place(&key)
 }
 
-/// Drops the places of a name's four keys that hold no rule, the last first. One key is made, whose type then changes.
+/// Drops the places of a name's four keys that hold no rule, the last first. The name is looked up three times at most.
 pub fn release_name(rules: &mut RoutingRules, keyspace: Option<&KeyspaceName>, table: &TableName)
     ensures { rules.new ≡ fold without_rule_place rules.old (reverse (keys_of_name (option_copied keyspace.entry) table.now)) }
 {
-    let mut key = key_of_name(keyspace, table, None);
-    key.tablet_type = Some(TabletType::Rdonly);
-    rules.release_key(&key);
-    key.tablet_type = Some(TabletType::Replica);
-    rules.release_key(&key);
-    key.tablet_type = Some(TabletType::Primary);
-    rules.release_key(&key);
-    key.tablet_type = None;
-    rules.release_key(&key);
-}
-
-/// Drops the places of a name's four keys, with their rules. The name is looked up once.
-#[inline(always)]
-pub fn drop_name(rules: &mut RoutingRules, keyspace: Option<&KeyspaceName>, table: &TableName)
-    ensures { rules.new ≡ fold without_rule_entry rules.old (keys_of_name (option_copied keyspace.entry) table.now) }
-{
-    rules.drop_name(&key_of_name(keyspace, table, None));
+    rules.release_name(&key_of_name(keyspace, table, None));
 }

@@ -14,10 +14,8 @@ ghost use Rattle.mt_model.specs.Documents.{dump_text};
 ghost use Rattle.mt_keyspace.specs.Edits.{Edits, add_keyspace_refusal, add_table_grows, add_table_refusal};
 ghost use Rattle.mt_topology.specs.Edits.{edit_rule_grows, edit_rule_refusal};
 ghost use Rattle.mt_topology.specs.Leads.{lent_target};
-ghost use Rattle.mt_places.specs.Places.{of_type};
-ghost use Rattle.mt_places.specs.Rules.{four_keys, four_rules, lent_rule};
+ghost use Rattle.mt_rules.specs.Rules.{four_keys, four_rules, lent_rule, of_type};
 
-mod clear;
 mod part;
 
 use crate::rules::{put_rule, rule_for, take_rule};
@@ -113,8 +111,8 @@ impl Topology {
         self.keyspaces.facts();
     }
 
-    /// All routes, each once: first the rules that stand, in the order of their places, then the tables that are there, keyspace by
-    /// keyspace. It looks at each place once to count them, and once to list them. Refused only when out of memory. (Vitess: the
+    /// All routes, each once: first the rules that stand, in the order of their keys, then the tables that are there, keyspace by
+    /// keyspace. It looks at each place once to count them, and once to list them; the rules are then put in order. Refused only when out of memory. (Vitess: the
     /// serving VSchema)
     pub fn routes(&self, alloc: Global) -> Result<Vec<Entry>, AllocError>
         ensures { IfOk result (λ list. list.items ≡ routes_of self.now) }
@@ -133,9 +131,9 @@ impl Topology {
         routes::count(&self.rules, &self.keyspaces)
     }
 
-    /// A route by its index: first the rules in the order of their places, then the tables, keyspace by keyspace. No two
-    /// routes have the same key. It takes no memory; it looks at each place before it, so that a walk over all routes takes
-    /// time in the square of their number, some 12,000 at most.
+    /// A route by its index: first the rules in the order of their keys, then the tables, keyspace by keyspace. No two
+    /// routes have the same key. It takes no memory; for a table it looks at each place before it, for a rule at all places of
+    /// rules once for each of them up to its own, so that a walk over all routes wants `routes`.
     pub fn route_entry(&self, index: usize) -> Entry
         requires { index < length (routes_of self.now) }
         ensures { Some result ≡ slice_get (routes_of self.now) index }
@@ -239,7 +237,7 @@ impl Topology {
     }
 
     /// Writes the rules of two keys of a name, each of which has a place, one after the other, by the names of where they lead, or takes
-    /// them away, and leaves the rules before. The type of the key is not looked at. It takes no memory, and looks the name up once.
+    /// them away, and leaves the rules before. The type of the key is not looked at. It takes no memory, and looks the name up twice.
     pub fn exchange_two(
         &mut self,
         name: &RuleKey,

@@ -1,57 +1,57 @@
 -- A table none of whose rule keys has a rule.
-use Rattle.std.proofs.Common.{◌≡◌, ℕ, List, [], ◌∷◌, ◌++◌, Option, None, Some, find, refl, ap, sym, ◌∙◌}
+use Rattle.std.proofs.Common.{◌≡◌, ℕ, List, [], ◌∷◌, Option, None, Some, find, unwrap_or, option_and_then, refl, ap, sym, ◌∙◌}
 use Rattle.std.specs.List.{AllByRecursion}
+use Rattle.std.specs.Map.{lookup}
 use Rattle.indexmap.specs.IndexMap.{insert_entry}
 use Rattle.mt_names.specs.declared.keys.RuleKey.{RuleKey}
+use Rattle.mt_names.specs.declared.types.TabletType.{TabletType}
 use Rattle.mt_names.specs.declared.types.TabletType.TheVariants.{Primary, Replica, Rdonly}
 use Rattle.mt_names.specs.Same.{same_key}
-use Rattle.mt_model.specs.Part.{keys_of_name, table_rule_keys}
+use Rattle.mt_model.specs.Part.{keys_of_name}
 use Rattle.mt_model.specs.Topology.{Rules, rule_at}
+use Rattle.mt_rules.specs.declared.four.FourPlaces.{FourPlaces}
+use Rattle.mt_rules.specs.Places.{place_at}
 use Rattle.mt_workflow.specs.Builds.{Agrees, with_kept}
 use Rattle.mt_workflow.specs.Creates.{leads_elsewhere}
 use Rattle.mt_workflow.proofs.AgreeLemmas.{agrees_left}
 
--- no key of a table has a rule
-abbrev pub HasNoRule : Rules → List ℕ → Type 0
-HasNoRule rules table = (key : RuleKey) → key.table ≡ table → rule_at rules key ≡ None
-
 -- none of some keys has one
-abbrev NoneHas : Rules → List RuleKey → Type 0
+abbrev pub NoneHas : Rules → List RuleKey → Type 0
 NoneHas rules keys = AllByRecursion (λ key. rule_at rules key ≡ None) keys
 
-none_more : (rules : Rules) (front back : List RuleKey) → NoneHas rules front → NoneHas rules back → NoneHas rules (front ++ back)
-none_more rules [] back none others = others
-none_more rules (key ∷ front) back none others = (none.0, none_more rules front back none.1 others)
+-- ---- the keys of a name
 
-none_of_name : (rules : Rules) (keyspace : Option (List ℕ)) (table : List ℕ) → HasNoRule rules table → NoneHas rules (keys_of_name keyspace table)
-none_of_name rules keyspace table none =
-    let for_all : RuleKey = record { keyspace = keyspace; table = table; tablet_type = None } in
-    let for_primary : RuleKey = record { keyspace = keyspace; table = table; tablet_type = Some Primary } in
-    let for_replica : RuleKey = record { keyspace = keyspace; table = table; tablet_type = Some Replica } in
-    let for_rdonly : RuleKey = record { keyspace = keyspace; table = table; tablet_type = Some Rdonly } in
-    (none for_all refl, (none for_primary refl, (none for_replica refl, (none for_rdonly refl, tt))))
+-- the key of a name for a type or for all
+abbrev named : Option (List ℕ) → List ℕ → Option TabletType → RuleKey
+named keyspace table type = record { keyspace = keyspace; table = table; tablet_type = type }
 
-none_of_table : (rules : Rules) (source target table : List ℕ) → HasNoRule rules table → NoneHas rules (table_rule_keys source target table)
-none_of_table rules source target table none =
-    none_more rules (keys_of_name None table) (keys_of_name (Some source) table ++ keys_of_name (Some target) table) (none_of_name rules None table none)
-    (none_more rules (keys_of_name (Some source) table) (keys_of_name (Some target) table) (none_of_name rules (Some source) table none) (none_of_name rules (Some target) table none))
+-- what a name's places say is what stands at its keys
+abbrev pub AreFound : Rules → Option (List ℕ) → List ℕ → Option FourPlaces → Type 0
+AreFound rules keyspace table found =
+    (type : Option TabletType) → option_and_then (λ four. place_at four type) found ≡ lookup (same_key (record { keyspace = keyspace; table = table; tablet_type = type })) rules
+
+-- a name without places has no rule, nor has one whose places have none
+pub without_places : (rules : Rules) (keyspace : Option (List ℕ)) (table : List ℕ) → AreFound rules keyspace table None → NoneHas rules (keys_of_name keyspace table)
+without_places rules keyspace table are =
+    let none : (type : Option TabletType) → rule_at rules (named keyspace table type) ≡ None = λ type. ap (λ o. unwrap_or o None) (sym (are type)) in
+    (none None, (none (Some Primary), (none (Some Replica), (none (Some Rdonly), tt))))
+
+pub without_rules : (rules : Rules) (keyspace : Option (List ℕ)) (table : List ℕ) (four : FourPlaces) → AreFound rules keyspace table (Some four)
+    → ((type : Option TabletType) → unwrap_or (place_at four type) None ≡ None) → NoneHas rules (keys_of_name keyspace table)
+without_rules rules keyspace table four are blank =
+    let none : (type : Option TabletType) → rule_at rules (named keyspace table type) ≡ None = λ type. ap (λ o. unwrap_or o None) (sym (are type)) ∙ blank type in
+    (none None, (none (Some Primary), (none (Some Replica), (none (Some Rdonly), tt))))
 
 -- ---- none leads elsewhere
 
-none_elsewhere : (rules : Rules) (source table : List ℕ) (keys : List RuleKey) → NoneHas rules keys → find (leads_elsewhere rules source table) keys ≡ None
-none_elsewhere rules source table [] none = refl
-none_elsewhere rules source table (key ∷ keys) none = rw none.0 (none_elsewhere rules source table keys none.1)
-
-pub no_conflict : (rules : Rules) (source target table : List ℕ) → HasNoRule rules table → find (leads_elsewhere rules source table) (table_rule_keys source target table) ≡ None
-no_conflict rules source target table none = none_elsewhere rules source table (table_rule_keys source target table) (none_of_table rules source target table none)
+pub no_conflict : (rules : Rules) (source table : List ℕ) (keys : List RuleKey) → NoneHas rules keys → find (leads_elsewhere rules source table) keys ≡ None
+no_conflict rules source table [] none = refl
+no_conflict rules source table (key ∷ keys) none = rw none.0 (no_conflict rules source table keys none.1)
 
 -- ---- nothing has to be kept where nothing is
 
-none_kept : (rules es stood : Rules) (keys : List RuleKey) → es ≡ [] → Agrees es stood → NoneHas rules keys → Agrees es (with_kept rules stood keys)
-none_kept rules es stood [] empty agree none = agree
-none_kept rules es stood (key ∷ keys) empty agree none =
-    none_kept rules es (insert_entry same_key stood key (rule_at rules key)) keys empty
+pub nothing_kept : (rules es stood : Rules) (keys : List RuleKey) → es ≡ [] → Agrees es stood → NoneHas rules keys → Agrees es (with_kept rules stood keys)
+nothing_kept rules es stood [] empty agree none = agree
+nothing_kept rules es stood (key ∷ keys) empty agree none =
+    nothing_kept rules es (insert_entry same_key stood key (rule_at rules key)) keys empty
     (λ j. agrees_left es stood key empty agree j ∙ ap (λ rule. rule_at (insert_entry same_key stood key rule) j) (sym none.0)) none.1
-
-pub nothing_kept : (rules es stood : Rules) (source target table : List ℕ) → es ≡ [] → Agrees es stood → HasNoRule rules table → Agrees es (with_kept rules stood (table_rule_keys source target table))
-nothing_kept rules es stood source target table empty agree none = none_kept rules es stood (table_rule_keys source target table) empty agree (none_of_table rules source target table none)

@@ -10,6 +10,7 @@ ghost use Rattle.mt_workflow.specs.Builds.{Agrees, with_kept};
 ghost use Rattle.mt_workflow.specs.Workflows.{kept_of};
 
 use crate::fault::WorkflowFault;
+use crate::ruled::has_rule;
 use arrayvec::ArrayVec;
 use indexmap::{IndexMap, IndexSet};
 use mt_model::{part_keys_are_distinct, table_rule_keys};
@@ -70,7 +71,7 @@ pub(crate) fn kept_rules(
     Ok(kept)
 }
 
-/// Keeps the rule that stands at each of a table's rule keys, or none. They aren't made where nothing is kept yet, and none may have
+/// Keeps the rule that stands at each of a table's rule keys, or none. They aren't made where nothing is kept yet, and none has
 /// a rule. `W0 Memory`.
 fn keep_table(
     kept: &mut IndexMap<RuleKey, Option<RuleTarget>>,
@@ -83,7 +84,7 @@ fn keep_table(
         → Agrees kept.new.entries (with_kept rules.now stood (table_rule_keys source.now target.now table.now))) }
     ensures memory { IfErr result (λ fault. fault ≡ WorkflowFault.Memory) }
 {
-    if kept.is_empty() && !rules.may_have_rule(table) {
+    if kept.is_empty() && !has_rule(rules, source, target, table) {
         return Ok(());
     }
     keep_keys(kept, source, target, table, rules)

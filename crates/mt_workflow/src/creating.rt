@@ -4,6 +4,7 @@ ghost use Rattle.mt_model.specs.Part.{table_rule_keys};
 ghost use Rattle.mt_workflow.specs.Creates.{answer_of, conflict_of, create_refusal, is_denied_by_hand, is_sharded, leads_elsewhere, table_refusal, tables_refusal};
 
 use crate::fault::WorkflowFault;
+use crate::ruled::has_rule;
 use mt_model::table_rule_keys;
 use mt_names::{KeyspaceName, RuleKey, TableName};
 use mt_rules::RoutingRules;
@@ -112,8 +113,8 @@ fn is_denied_by_hand(
     topology.is_denied(source, table) || topology.is_denied(target, table)
 }
 
-/// The first of a table's rule keys whose rule leads elsewhere than to the table at the source. They aren't made where none may
-/// have a rule.
+/// The first of a table's rule keys whose rule leads elsewhere than to the table at the source. They aren't made where none
+/// has a rule.
 fn table_conflict(
     rules: &RoutingRules,
     source: &KeyspaceName,
@@ -122,7 +123,7 @@ fn table_conflict(
 ) -> Option<RuleKey>
     ensures { result ≡ find (leads_elsewhere rules.now source.now table.now) (table_rule_keys source.now target.now table.now) }
 {
-    if !rules.may_have_rule(table) {
+    if !has_rule(rules, source, target, table) {
         return None;
     }
     conflict_of_keys(rules, source, target, table)

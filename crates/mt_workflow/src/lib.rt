@@ -7,6 +7,7 @@ mod fault;
 mod lane;
 mod laws;
 mod part;
+mod ruled;
 mod way;
 mod workflow;
 

@@ -8,7 +8,7 @@ ghost use Rattle.mt_plain.specs.Events.{running};
 ghost use Rattle.mt_plain.specs.Plain.{among, before_way, each_once, in_keyspace, is_side};
 ghost use Rattle.mt_plain.specs.Serve.{is_denied_at, owned_before, serve_plain, serve_rule};
 ghost use Rattle.mt_plain.specs.Slots.{written_side};
-ghost use Rattle.mt_places.specs.Rules.{lent_rule};
+ghost use Rattle.mt_rules.specs.Rules.{lent_rule};
 ghost use Rattle.mt_primary.specs.Primary.{end_of, has_table};
 ghost use Rattle.mt_stream.specs.Streams.{StreamValue, state_from};
 ghost use Rattle.mt_workflow.specs.Advance.{AdvancesSlot};

@@ -1,10 +1,10 @@
 //! The part of a workflow: its places, made and dropped together.
-ghost use Rattle.std.specs.Prelude.{◌≡◌, ◌≢◌, true, false, None, IfErr, OnOk, map, option_copied, reverse};
+ghost use Rattle.std.specs.Prelude.{◌≡◌, true, false, None, IfErr, OnOk, map, option_copied, reverse};
 ghost use Rattle.std.specs.List.{AllByRecursion};
 ghost use Rattle.mt_model.specs.Part.{keys_of_name, part_keys, table_part_keys, table_rule_keys, with_place, with_places, without_place, without_places};
 ghost use Rattle.mt_model.specs.Topology.{has_place};
 ghost use Rattle.mt_keyspace.specs.Edits.{Edits};
-ghost use Rattle.mt_places.specs.Rules.{four_keys};
+ghost use Rattle.mt_rules.specs.Rules.{four_keys};
 ghost use Rattle.mt_topology.specs.Part.{all_made, keys_made, lacks_a_place, name_key, place_grows, place_refusal, places_refusal, reserve_refusal};
 
 use crate::made::Made;
@@ -174,52 +174,32 @@ impl Topology {
         ensures memory { IfErr result (λ fault. fault ≡ TopologyFault.Memory) }
         ensures back { without_places self.new (reverse (all_made made.new.items)) ≡ without_places self.old (reverse (all_made made.old.items)) }
     {
-        if source != target && !self.rules.may_have_place(table) {
-            self.make_new_names(source, target, table, made)
-        } else {
-            self.make_names(source, target, table, made)
-        }
-    }
-
-    /// Makes the places of a table's rule keys name by name, each where it is lacking, and notes those that it made. It stops at `T0 Memory`.
-    fn make_names<'a>(
-        &mut self,
-        source: &'a KeyspaceName,
-        target: &'a KeyspaceName,
-        table: &'a TableName,
-        made: &mut Vec<Made<'a>>,
-    ) -> Result<(), TopologyFault>
-        requires { places_refusal self.old (map EntryKey.Rule (table_rule_keys source.now target.now table.now)) ≡ None }
-        ensures all { OnOk result (self.new ≡ with_places self.old (map EntryKey.Rule (table_rule_keys source.now target.now table.now))) }
-        ensures memory { IfErr result (λ fault. fault ≡ TopologyFault.Memory) }
-        ensures back { without_places self.new (reverse (all_made made.new.items)) ≡ without_places self.old (reverse (all_made made.old.items)) }
-    {
         self.make_name(None, table, made)?;
         self.make_name(Some(source), table, made)?;
         self.make_name(Some(target), table, made)
     }
 
-    /// Makes the places of a table's rule keys, none of which has one, and notes them: none is looked for. It stops at `T0 Memory`.
-    fn make_new_names<'a>(
+    /// Makes the places of a name's four rule keys, for which there is room, and notes those that it made: all at once where none has
+    /// one, else each where it is lacking. It stops at `T0 Memory`.
+    fn make_name<'a>(
         &mut self,
-        source: &'a KeyspaceName,
-        target: &'a KeyspaceName,
+        keyspace: Option<&'a KeyspaceName>,
         table: &'a TableName,
         made: &mut Vec<Made<'a>>,
     ) -> Result<(), TopologyFault>
-        requires free { places_refusal self.old (map EntryKey.Rule (table_rule_keys source.now target.now table.now)) ≡ None }
-        requires apart { source.now ≢ target.now }
-        requires lacks { (key : RuleKey) → key.table ≡ table.now → has_place self.old (EntryKey.Rule key) ≡ false }
-        ensures all { OnOk result (self.new ≡ with_places self.old (map EntryKey.Rule (table_rule_keys source.now target.now table.now))) }
+        requires { places_refusal self.old (map EntryKey.Rule (keys_of_name (option_copied keyspace) table.now)) ≡ None }
+        ensures all { OnOk result (self.new ≡ with_places self.old (map EntryKey.Rule (keys_of_name (option_copied keyspace.entry) table.now))) }
         ensures memory { IfErr result (λ fault. fault ≡ TopologyFault.Memory) }
         ensures back { without_places self.new (reverse (all_made made.new.items)) ≡ without_places self.old (reverse (all_made made.old.items)) }
     {
-        self.make_new_name(None, table, made)?;
-        self.make_new_name(Some(source), table, made)?;
-        self.make_new_name(Some(target), table, made)
+        if self.rules.name(keyspace, table).is_none() {
+            self.make_new_name(keyspace, table, made)
+        } else {
+            self.make_each(keyspace, table, made)
+        }
     }
 
-    /// Makes the places of a name's four rule keys, none of which has one: the name is looked up once, and noted once. `T0 Memory`.
+    /// Makes the places of a name's four rule keys, none of which has one: the name is noted once. `T0 Memory`.
     #[inline(always)]
     fn make_new_name<'a>(
         &mut self,
@@ -257,7 +237,7 @@ impl Topology {
     }
 
     /// Makes the places of a name's four rule keys one by one, each where it is lacking, and notes those that it made. It stops at `T0 Memory`.
-    fn make_name<'a>(
+    fn make_each<'a>(
         &mut self,
         keyspace: Option<&'a KeyspaceName>,
         table: &'a TableName,

@@ -1,46 +1,35 @@
--- Each key has its place when its rule is written, and at the end the name's rules are written.
-use Rattle.std.proofs.Common.{◌≡◌, true, [], ◌∷◌, Some, option_copied, subst, sym}
-use Rattle.mt_names.specs.declared.types.TabletType.TheVariants.{Primary, Replica}
-use Rattle.mt_model.specs.declared.entries.EntryKey.TheVariants as about
-use Rattle.mt_model.specs.Topology.{has_place, value_of}
-use Rattle.mt_stands.specs.Keys.{rules_only}
+-- Each key has its place, and the name's rules are written at once.
+use Rattle.std.proofs.Common.{map, Option, None, Some, option_copied, ap, subst, sym, ◌∙◌}
+use Rattle.mt_names.specs.declared.keys.RuleKey.{RuleKey}
+use Rattle.mt_names.specs.declared.keys.RuleTarget.{RuleTarget}
+use Rattle.mt_names.specs.declared.types.TabletType.{TabletType}
+use Rattle.mt_names.specs.declared.types.TabletType.TheVariants.{Primary, Replica, Rdonly}
+use Rattle.mt_model.specs.declared.entries.Entry.TheVariants as entry
+use Rattle.mt_model.specs.Part.{with_entries}
+use Rattle.mt_model.specs.Topology.{TopologyState, rule_at}
+use Rattle.mt_rules.specs.Rules.{four_rules, lent_rule}
 use Rattle.mt_moves.specs.Parts.{HasPlaces}
-use Rattle.mt_moves.proofs.WriteLemmas.{name_whole, names, places-still}
+use Rattle.mt_moves.proofs.WriteLemmas.{names}
 use Rattle.mt_moves.proofs.parts.write_kept_name.Goals as goal
 
-pub write_kept_rule-requires : goal.write_kept_rule-requires
-write_kept_rule-requires c =
-    subst (λ k. has_place c.args.topology.now (about.Rule k) ≡ true) (sym c.key_of_name-key.ensures) c.requires.0
-
-pub write_kept_rule-requires-2 : goal.write_kept_rule-requires-2
-write_kept_rule-requires-2 c =
-    let w = c.args.workflow.now in
-    let keys = names c.key_of_name-key.result.keyspace c.key_of_name-key.result.table in
-    let p0 = subst (λ k. HasPlaces c.args.topology.now (names k.keyspace k.table)) (sym c.key_of_name-key.ensures) c.requires in
-    let p1 = places-still c.args.topology.now c.write_kept_rule.new.topology (value_of (rules_only w.kept) (about.Rule c.key_of_name-key.result) ∷ []) keys c.write_kept_rule.ensures p0 in
-    p1.1.0
-
-pub write_kept_rule-requires-3 : goal.write_kept_rule-requires-3
-write_kept_rule-requires-3 c =
-    let w = c.args.workflow.now in
-    let keys = names c.key_of_name-key.result.keyspace c.key_of_name-key.result.table in
-    let p0 = subst (λ k. HasPlaces c.args.topology.now (names k.keyspace k.table)) (sym c.key_of_name-key.ensures) c.requires in
-    let p1 = places-still c.args.topology.now c.write_kept_rule.new.topology (value_of (rules_only w.kept) (about.Rule c.key_of_name-key.result) ∷ []) keys c.write_kept_rule.ensures p0 in
-    let p2 = places-still c.write_kept_rule.new.topology c.write_kept_rule-2.new.topology (value_of (rules_only w.kept) (about.Rule (record c.key_of_name-key.result { tablet_type = Some Primary })) ∷ []) keys c.write_kept_rule-2.ensures p1 in
-    p2.1.1.0
-
-pub write_kept_rule-requires-4 : goal.write_kept_rule-requires-4
-write_kept_rule-requires-4 c =
-    let w = c.args.workflow.now in
-    let keys = names c.key_of_name-key.result.keyspace c.key_of_name-key.result.table in
-    let p0 = subst (λ k. HasPlaces c.args.topology.now (names k.keyspace k.table)) (sym c.key_of_name-key.ensures) c.requires in
-    let p1 = places-still c.args.topology.now c.write_kept_rule.new.topology (value_of (rules_only w.kept) (about.Rule c.key_of_name-key.result) ∷ []) keys c.write_kept_rule.ensures p0 in
-    let p2 = places-still c.write_kept_rule.new.topology c.write_kept_rule-2.new.topology (value_of (rules_only w.kept) (about.Rule (record c.key_of_name-key.result { tablet_type = Some Primary })) ∷ []) keys c.write_kept_rule-2.ensures p1 in
-    let p3 = places-still c.write_kept_rule-2.new.topology c.write_kept_rule-3.new.topology (value_of (rules_only w.kept) (about.Rule (record c.key_of_name-key.result { tablet_type = Some Replica })) ∷ []) keys c.write_kept_rule-3.ensures p2 in
-    p3.1.1.1.0
+pub put_name-requires : goal.put_name-requires
+put_name-requires c = subst (λ (k : RuleKey). HasPlaces c.args.topology.now (names k.keyspace k.table)) (sym c.key_of_name-name.ensures) c.requires
 
 pub returns : goal.returns
 returns c =
     let w = c.args.workflow.now in
-    name_whole (value_of (rules_only w.kept)) c.args.topology.now c.write_kept_rule.new.topology c.write_kept_rule-2.new.topology c.write_kept_rule-3.new.topology c.write_kept_rule-4.new.topology c.key_of_name-key.result (option_copied c.args.keyspace) c.args.table.now c.key_of_name-key.ensures
-    c.write_kept_rule.ensures c.write_kept_rule-2.ensures c.write_kept_rule-3.ensures c.write_kept_rule-4.ensures
+    let k = c.key_of_name-name.result in
+    let kept = c.kept_names-kept.result in
+    let at : Option TabletType → RuleKey = λ type. record { keyspace = option_copied c.args.keyspace; table = c.args.table.now; tablet_type = type } in
+    let written : RuleKey → Option RuleTarget → Option RuleTarget → Option RuleTarget → Option RuleTarget → TopologyState =
+    λ name plain primary replica rdonly. with_entries c.args.topology.now (map (λ r. entry.Rule r.0 r.1) (four_rules name plain primary replica rdonly)) in
+    let plain = rule_at w.kept (at None) in
+    let primary = rule_at w.kept (at (Some Primary)) in
+    let replica = rule_at w.kept (at (Some Replica)) in
+    let rdonly = rule_at w.kept (at (Some Rdonly)) in
+    c.put_name.ensures
+    ∙ ap (λ r. written k r (lent_rule kept.1) (lent_rule kept.2) (lent_rule kept.3)) c.kept_names-kept.ensures.plain
+    ∙ ap (λ r. written k plain r (lent_rule kept.2) (lent_rule kept.3)) c.kept_names-kept.ensures.primary
+    ∙ ap (λ r. written k plain primary r (lent_rule kept.3)) c.kept_names-kept.ensures.replica
+    ∙ ap (λ r. written k plain primary replica r) c.kept_names-kept.ensures.rdonly
+    ∙ ap (λ n. written n plain primary replica rdonly) c.key_of_name-name.ensures

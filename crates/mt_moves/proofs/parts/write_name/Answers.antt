@@ -8,7 +8,7 @@ use Rattle.mt_model.specs.declared.entries.Entry.TheVariants as entry
 use Rattle.mt_model.specs.Part.{with_entries}
 use Rattle.mt_plain.specs.Plain.{in_keyspace}
 use Rattle.mt_plain.specs.Serve.{serve_rule}
-use Rattle.mt_places.specs.Rules.{four_rules}
+use Rattle.mt_rules.specs.Rules.{four_rules}
 use Rattle.mt_stands.specs.Keys.{rules_only}
 use Rattle.mt_workflow.specs.Workflows.{live_of}
 use Rattle.mt_moves.specs.Parts.{HasPlaces}

@@ -3,7 +3,7 @@ use Rattle.std.proofs.Common.{Some, subst, sym}
 use Rattle.mt_model.specs.declared.entries.Entry.TheVariants as entry
 use Rattle.mt_model.specs.declared.entries.EntryKey.TheVariants as about
 use Rattle.mt_names.specs.declared.types.TabletType.TheVariants.{Primary}
-use Rattle.mt_places.specs.Rules.{lent_rule}
+use Rattle.mt_rules.specs.Rules.{lent_rule}
 use Rattle.mt_steps.specs.Entries.{HavePlaces}
 use Rattle.mt_steps.proofs.TableLemmas.{names, placed_still}
 use Rattle.mt_steps.proofs.entries.write_back_writes_of.Goals as goal

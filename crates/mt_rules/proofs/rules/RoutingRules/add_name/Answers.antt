@@ -1,20 +1,20 @@
--- There are four places more, which are counted, and no rule.
-use Rattle.std.proofs.Common.{is_some, length, arith, ap}
-use Rattle.mt_model.specs.Topology.{Rules}
-use Rattle.mt_places.specs.Counts.{any_place, class_of, number_in}
-use Rattle.mt_places.proofs.CountsLemmas.{has_room_four, number_four}
-use Rattle.mt_places.proofs.NameLemmas.{length_four}
+-- Four places more, where there is room for them.
+use Rattle.std.proofs.Common.{◌≡◌, ◌≤◌, ◌+◌, false, fold, length, Result, Ok, Err, OnOk, OnErr, arith, sym, ap, subst, ◌∙◌}
+use Rattle.std.specs.List.{AllByRecursion}
+use Rattle.mt_names.specs.declared.keys.RuleKey.{RuleKey}
+use Rattle.mt_model.specs.Limits.{most_rules}
+use Rattle.mt_model.specs.Topology.{Rules, with_rule_place}
+use Rattle.mt_rules.specs.Rules.{four_keys, has_rule_place}
+use Rattle.mt_rules.proofs.ChangeLemmas.{add_four_length}
 use Rattle.mt_rules.proofs.rules.RoutingRules.add_name.Goals as goal
 
-pub count_four-requires-clause-room : goal.count_four-requires-clause-room
-count_four-requires-clause-room c = has_room_four any_place c.self.inside.placed c.self.inside.places (class_of c.args.name.now.table) c.self.invariant.1 c.self.invariant.0
+within : {A E : Type 0} (r : Result A E) (old new : Rules) (k : RuleKey) → AllByRecursion (λ key. has_rule_place old key ≡ false) (four_keys k) → length old + 4 ≤ most_rules
+    → OnOk r (new ≡ fold with_rule_place old (four_keys k)) → OnErr r (new ≡ old) → length new ≤ most_rules
+within (Ok done) old new k lacks room ok err = let is : length new ≡ length old + 4 = ap length ok ∙ add_four_length old k lacks in omega (arith, is, room)
+within (Err fault) old new k lacks room ok err = let is : length new ≡ length old = ap length err in omega (arith, is, room)
 
 pub invariant_of-self : goal.invariant_of-self
 invariant_of-self c =
-    let rules : Rules = c.self.inside.places in
-    let name = c.args.name.now in
-    let after = c.in-Ok.ensures.ok in (
-      omega (arith, ap length after, length_four rules name, ap length c.self.view_is, c.requires.room),
-      (λ class. omega (arith, c.count_four.ensures class, c.self.invariant.1 class, ap (number_in any_place class) after, number_four any_place class rules name)),
-      (λ class. omega (arith, c.self.invariant.2 class, ap (number_in is_some class) after, number_four is_some class rules name)),
-    )
+    let lacks = subst (λ rules. AllByRecursion (λ key. has_rule_place rules key ≡ false) (four_keys c.args.name.now)) (sym c.self.view_is) c.requires.lacks in
+    let room : length c.self.inside.places + 4 ≤ most_rules = subst (λ rules. length rules + 4 ≤ most_rules) (sym c.self.view_is) c.requires.room in
+    within c.add_name.result c.self.inside.places c.add_name.new.self c.args.name.now lacks room c.add_name.ensures.ok c.add_name.ensures.err

@@ -3,7 +3,7 @@ use Rattle.std.proofs.Common.{rules, ◌≡◌, [], ◌∷◌, ◌++◌, map, No
 use Rattle.mt_names.specs.declared.keys.RuleKey.{RuleKey}
 use Rattle.mt_model.specs.declared.entries.EntryKey.TheVariants as about
 use Rattle.mt_model.specs.Part.{with_places}
-use Rattle.mt_places.specs.Rules.{four_keys}
+use Rattle.mt_rules.specs.Rules.{four_keys}
 use Rattle.mt_topology.specs.declared.made.Made.TheVariants as together
 use Rattle.mt_topology.specs.Part.{places_refusal}
 use Rattle.mt_topology.proofs.MadeLemmas.{name_made, noted_back}

@@ -1,11 +1,9 @@
--- There is room for all four, and they stand behind the others.
-use Rattle.std.proofs.Common.{rules, ◌≡◌, ◌≤◌, ◌++◌, List, Option, None, length, map, arith, ap, sym, ◌∙◌}
-use Rattle.mt_names.specs.declared.keys.RuleKey.{RuleKey}
-use Rattle.mt_names.specs.declared.keys.RuleTarget.{RuleTarget}
+-- There is room for all four, and they get their places one after the other.
+use Rattle.std.proofs.Common.{rules, ◌≡◌, ◌≤◌, fold, length, arith, ap, sym, ◌∙◌}
 use Rattle.mt_model.specs.Limits.{most_rules}
-use Rattle.mt_model.specs.Topology.{Rules, TopologyState}
-use Rattle.mt_places.specs.Rules.{four_keys}
-use Rattle.mt_topology.proofs.NewLemmas.{four_apart, room_for_new, with_places_new}
+use Rattle.mt_model.specs.Topology.{Rules, TopologyState, with_rule_place}
+use Rattle.mt_rules.specs.Rules.{four_keys}
+use Rattle.mt_topology.proofs.NewLemmas.{four_apart, room_for_new, with_places-rules}
 use Rattle.mt_topology.proofs.topology.Topology.make_new_rules.Goals as goal
 
 pub add_name-requires-clause-room : goal.add_name-requires-clause-room
@@ -17,7 +15,6 @@ add_name-requires-clause-room c =
 pub returns-clause-ok : goal.returns-clause-ok
 returns-clause-ok c =
     let name = c.args.name.now in
-    let made : List (RuleKey × Option RuleTarget) = map (λ key. (key, None)) (four_keys name) in
-    let after : c.add_name.new.self ≡ c.self.inside.rules ++ made = search rules in
+    let after : c.add_name.new.self ≡ fold with_rule_place c.self.inside.rules (four_keys name) = search rules in
     let state : Rules → TopologyState = λ rules. record { rules = rules; keyspaces = c.self.inside.keyspaces } in
-    ap state after ∙ ap (λ (t : TopologyState). record t { rules = t.rules ++ made }) c.self.view_is ∙ sym (with_places_new c.args.self.now (four_keys name) (four_apart name) c.requires.lacks)
+    ap state after ∙ ap (λ (t : TopologyState). record t { rules = fold with_rule_place t.rules (four_keys name) }) c.self.view_is ∙ sym (with_places-rules c.args.self.now (four_keys name))
