@@ -8,34 +8,10 @@ use Rattle.std.proofs.lemmas.Slice.Eq.{bytes_eq-Decides}
 use Rattle.std.specs.Cmp.Lexicographic.{slice_cmp}
 use Rattle.std.specs.Ordering.{is_eq, is_lt, nat_cmp, ordering_reverse, ordering_then}
 use Rattle.mt_model.specs.Documents.{comes_before, put_by_text, sorted_by_text}
+use Rattle.mt_model.proofs.OrderLemmas.{between, comes_before-is}
 
 abbrev cmp : List ℕ → List ℕ → Ordering
 cmp a b = slice_cmp nat_cmp a b
-
--- ---- the order of texts is that of their bytes
-
-at_byte : (a b : ℕ) (before : Bool) (rest : Ordering) → before ≡ is_lt rest → (e t : Bool) → (a == b) ≡ e → nat_lt a b ≡ t → (if a == b then before else nat_lt a b) ≡ is_lt (ordering_then (nat_cmp a b) rest)
-at_byte a b before rest is true true e t = absurd (let same : a ≡ b = eqb-true a b e in let below : a < b = ltb-true a b t in omega (arith, same, below))
-at_byte a b before rest is true false e t = rw (e, t) is
-at_byte a b before rest is false true e t = rw (e, t) refl
-at_byte a b before rest is false false e t = rw (e, t) refl
-
-comes_before-is : (a b : List ℕ) → comes_before a b ≡ is_lt (cmp a b)
-comes_before-is [] [] = refl
-comes_before-is [] (b ∷ bs) = refl
-comes_before-is (a ∷ as') [] = refl
-comes_before-is (a ∷ as') (b ∷ bs) = at_byte a b _ _ (comes_before-is as' bs) (a == b) (nat_lt a b) refl refl
-
-less_from : (o : Ordering) → is_lt o ≡ true → o ≡ Less
-less_from Less e = refl
-less_from Equal e = absurd (true≢false (sym e))
-less_from Greater e = absurd (true≢false (sym e))
-
--- of three texts
-between : (x y z : List ℕ) → comes_before x y ≡ true → comes_before y z ≡ true → comes_before x z ≡ true
-between x y z first second =
-    comes_before-is x z
-    ∙ ap is_lt (nat_list_cmp_total.trans x y z (less_from (cmp x y) (sym (comes_before-is x y) ∙ first)) (less_from (cmp y z) (sym (comes_before-is y z) ∙ second)))
 
 module _ {A : Type 0} where
   -- ---- two items are put in either order

@@ -16,7 +16,8 @@ use Rattle.mt_names.specs.declared.keys.RuleKey.{RuleKey}
 use Rattle.mt_names.specs.declared.types.TabletType.{TabletType}
 use Rattle.mt_names.specs.declared.types.TabletType.TheVariants.{Primary, Replica, Rdonly}
 use Rattle.mt_names.proofs.EntryLemmas.{absent_from_lookup, apart, lookup_from_absent, lookup-remove_entry_elsewhere, lookup-remove_entry_here, lookup-set_value_elsewhere, lookup-set_value_here, other_from, same_itself}
-use Rattle.mt_model.specs.Order.{Ascends, comes_before, key_before, key_code, keyspace_code, ordered, put_by, type_number}
+use Rattle.mt_model.specs.Order.{Ascends, comes_before, key_before, key_code, keyspace_code, ordered, put_by}
+use Rattle.mt_names.specs.Hashes.{type_number}
 
 -- ---- an entry that is put, whatever the order
 
@@ -324,7 +325,7 @@ module _ {K V : Type 0} (before : K → K → Bool) (order : IsOrder before) whe
 
 -- two that are put, in either order
 module _ {K : Type 0} (before : K → K → Bool) (order : IsOrder before) where
-  one_way : (a b : K) → before a b ≡ true → before b a ≡ false
+  pub one_way : (a b : K) → before a b ≡ true → before b a ≡ false
   one_way a b is = by (before b a) refl
     where
       by : (t : Bool) → before b a ≡ t → before b a ≡ false
@@ -332,7 +333,7 @@ module _ {K : Type 0} (before : K → K → Bool) (order : IsOrder before) where
       by false t = t
 
   -- of two the one that comes before a third that the other doesn't come before isn't behind the other
-  not_after : (a b c : K) → before a c ≡ true → before b c ≡ false → before b a ≡ false
+  pub not_after : (a b c : K) → before a c ≡ true → before b c ≡ false → before b a ≡ false
   not_after a b c first second = by (before b a) refl
     where
       by : (t : Bool) → before b a ≡ t → before b a ≡ false
@@ -392,7 +393,8 @@ turned a b other Less is not = absurd (true≢false (sym (ap is_lt is) ∙ not))
 turned a b other Equal is not = absurd (other ((bytes_eq-Decides a b).0 (sym (is_eq-slice_cmp a b) ∙ ap is_eq is)))
 turned a b other Greater is not = comes_before-is b a ∙ ap is_lt (nat_list_cmp_total.antisymm b a ∙ ap ordering_reverse is)
 
-between : (a b c : List ℕ) → comes_before a b ≡ true → comes_before b c ≡ true → comes_before a c ≡ true
+-- of three texts
+pub between : (a b c : List ℕ) → comes_before a b ≡ true → comes_before b c ≡ true → comes_before a c ≡ true
 between a b c first second =
     comes_before-is a c ∙ ap is_lt (nat_list_cmp_total.trans a b c (less_from (cmp a b) (sym (comes_before-is a b) ∙ first)) (less_from (cmp b c) (sym (comes_before-is b c) ∙ second)))
 

@@ -3,8 +3,7 @@ use Rattle.std.proofs.Common.{◌≡◌, ◌≢◌, ℕ, ◌<◌, ◌+◌, true,
 use Rattle.std.proofs.lemmas.List.{get_or-map}
 use Rattle.std.proofs.lemmas.List.Elements.{All-append, All-from_recursion, All-head, All-nil, All-tail}
 use Rattle.std.proofs.lemmas.List.Kept.{AllPairs-cons}
-use Rattle.mt_names.specs.declared.types.TabletType.{TabletType}
-use Rattle.mt_names.specs.declared.types.TabletType.TheVariants.{Primary, Replica, Rdonly}
+use Rattle.mt_names.specs.Hashes.{type_number}
 use Rattle.mt_names.specs.Names.{same_text}
 use Rattle.mt_names.proofs.EntryLemmas.{apart as differs}
 use Rattle.mt_names.proofs.SameLemmas.{same_text_decides}
@@ -36,12 +35,6 @@ table_of (about.Denied keyspace table) = table
 table_of (about.Present keyspace table) = table
 
 -- the place of a key among those of its table
-abbrev type_number : Option TabletType → ℕ
-type_number None = 0
-type_number (Some Primary) = 1
-type_number (Some Replica) = 2
-type_number (Some Rdonly) = 3
-
 abbrev side_number : List ℕ → Option (List ℕ) → ℕ
 side_number source None = 0
 side_number source (Some keyspace) = cond (same_text source keyspace) 4 8

@@ -4,21 +4,13 @@ use Rattle.std.specs.Prelude.{◌≡◌, ⊤, ℕ, suc, ◌==◌, nat_lt, Bool, 
 use Rattle.std.specs.List.{AllByRecursion}
 use Rattle.std.specs.Map.{keys_of, remove_entry}
 use Rattle.mt_names.specs.declared.keys.RuleKey.{RuleKey}
-use Rattle.mt_names.specs.declared.types.TabletType.{TabletType}
-use Rattle.mt_names.specs.declared.types.TabletType.TheVariants.{Primary, Replica, Rdonly}
+use Rattle.mt_names.specs.Hashes.{type_number}
 
 -- whether a text comes before another
 abbrev pub comes_before : List ℕ → List ℕ → Bool
 comes_before bytes [] = false
 comes_before [] (b ∷ bs) = true
 comes_before (a ∷ as') (b ∷ bs) = if a == b then comes_before as' bs else nat_lt a b
-
--- a number for each type, and one for all
-abbrev pub type_number : Option TabletType → ℕ
-type_number None = 0
-type_number (Some Primary) = 1
-type_number (Some Replica) = 2
-type_number (Some Rdonly) = 3
 
 -- a keyspace behind its length, where a key is qualified
 abbrev pub keyspace_code : Option (List ℕ) → List ℕ

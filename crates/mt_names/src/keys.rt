@@ -165,8 +165,8 @@ impl Hash for RuleKey {
     }
 }
 
-/// The number of the type that a key is for: 0 where it is for all.
-fn type_number(tablet_type: Option<TabletType>) -> u8
+/// The number of the type that a key is for, by which keys are hashed and ordered: 0 where it is for all.
+pub fn type_number(tablet_type: Option<TabletType>) -> u8
     ensures { result ≡ type_number tablet_type }
 {
     match tablet_type {

@@ -16,7 +16,7 @@ mod values;
 pub use equality::equality_decides;
 pub use examples::{examples_of_ranges, examples_of_shards};
 pub use fault::NameFault;
-pub use keys::{RuleKey, RuleTarget, key_has_one_spelling, target_has_one_spelling};
+pub use keys::{RuleKey, RuleTarget, key_has_one_spelling, target_has_one_spelling, type_number};
 pub use names::{KeyspaceName, TableName, WorkflowName};
 pub use ranges::{KeyRange, a_range_goes_by_bytes, range_has_one_spelling};
 pub use shards::{MAX_SHARDS, ShardList, a_shard_holds_its_keys, shards_have_one_spelling};

@@ -19,7 +19,7 @@ use Rattle.mt_names.proofs.SameLemmas.{same_key_decides}
 use Rattle.mt_model.proofs.OrderLemmas.{length-put_by, put_placed-elsewhere}
 use Rattle.mt_rules.specs.declared.four.FourPlaces.{FourPlaces}
 use Rattle.mt_rules.specs.declared.name.RuleName.{RuleName}
-use Rattle.mt_rules.specs.Places.{Names, Place, blank_count, is_blank, key_of, name_of, place_at, place_in, released, released_at, released_four, rules_in, same_name, with_name, with_place_at}
+use Rattle.mt_rules.specs.Places.{Names, Place, blank_count, is_blank, key_of, name_of, no_places, place_at, place_in, released, released_at, released_four, rules_in, same_name, with_name, with_place_at}
 use Rattle.mt_rules.specs.Rules.{four_keys, four_rules, has_rule_place, with_rules_set}
 use Rattle.mt_rules.proofs.NameLemmas.{same_name_decides}
 use Rattle.mt_rules.proofs.PlacesLemmas.{AreDistinct, added, changed, dropped, found, placed, placed-distinct, placed-same, placed-was, same_rules}
@@ -298,14 +298,20 @@ pub on_err : {A E : Type 0} (r : Result A E) (P : Type 0) → P → OnErr r P
 on_err (Ok done) P p = tt
 on_err (Err fault) P p = p
 
+no_place : (t : Option TabletType) → place_at no_places t ≡ None
+no_place None = refl
+no_place (Some Primary) = refl
+no_place (Some Replica) = refl
+no_place (Some Rdonly) = refl
+
 -- a name none of whose keys has a place goes without a change
-pub let_name_go : (old new : Names) (n : RuleName) → ((m : RuleName) → lookup (same_name m) new ≡ cond (same_name n m) None (lookup (same_name m) old)) → ((t : Option TabletType) → place_in old (key_of n t) ≡ None)
+pub let_name_go : (old new : Names) (n : RuleName) → ((m : RuleName) → lookup (same_name m) new ≡ cond (same_name n m) None (lookup (same_name m) old)) → lookup (same_name n) old ≡ Some no_places
     → (k : RuleKey) → place_in new k ≡ place_in old k
-let_name_go old new n updates none k = ap at (updates (name_of k)) ∙ by (same_name n (name_of k)) refl
+let_name_go old new n updates is k = ap at (updates (name_of k)) ∙ by (same_name n (name_of k)) refl
   where
     at : Option FourPlaces → Place
     at o = option_and_then (λ four. place_at four k.tablet_type) o
 
     by : (b : Bool) → same_name n (name_of k) ≡ b → option_and_then (λ four. place_at four k.tablet_type) (cond b None (lookup (same_name (name_of k)) old)) ≡ place_in old k
-    by true e = sym (subst (λ m. place_in old (key_of m k.tablet_type) ≡ None) ((same_name_decides n (name_of k)).0 e) (none k.tablet_type))
+    by true e = sym (ap at (subst (λ m. lookup (same_name m) old ≡ Some no_places) ((same_name_decides n (name_of k)).0 e) is) ∙ no_place k.tablet_type)
     by false e = refl

@@ -6,7 +6,8 @@ use Rattle.std.specs.Cmp.{nat_cmp_is}
 use Rattle.std.specs.Cmp.Lexicographic.{slice_cmp}
 use Rattle.std.specs.Ordering.{nat_cmp, ordering_then}
 use Rattle.mt_names.specs.declared.types.TabletType.{TabletType}
-use Rattle.mt_model.specs.Order.{keyspace_code, type_number}
+use Rattle.mt_names.specs.Hashes.{type_number}
+use Rattle.mt_model.specs.Order.{keyspace_code}
 
 abbrev cmp : List ℕ → List ℕ → Ordering
 cmp a b = slice_cmp nat_cmp a b

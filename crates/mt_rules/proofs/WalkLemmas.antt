@@ -19,7 +19,7 @@ use Rattle.mt_model.specs.declared.entries.Entry.TheVariants as entry
 use Rattle.mt_model.specs.Order.{Ascends, comes_before, key_before, key_code, ordered, put_by}
 use Rattle.mt_model.specs.Part.{rule_routes}
 use Rattle.mt_model.specs.Topology.{Rules, rule_at}
-use Rattle.mt_model.proofs.OrderLemmas.{key_order, lookup-ordered, same_entries}
+use Rattle.mt_model.proofs.OrderLemmas.{key_order, lookup-ordered, not_after, one_way, same_entries}
 use Rattle.mt_rules.specs.declared.four.FourPlaces.{FourPlaces}
 use Rattle.mt_rules.specs.declared.name.RuleName.{RuleName}
 use Rattle.mt_rules.specs.Places.{Names, Place, entry_at, first_after, four_entries, is_after, is_ruled, key_of, listed, ruled_count, rules_in}
@@ -42,21 +42,6 @@ first-same : (last : Option RuleKey) (A B : RuleKey → Type 0) (n : Option Rule
 unfolding IsFirst
 first-same last A B None to from first = λ k b. first k (from k b)
 first-same last A B (Some m) to from first = (to m first.0, first.1, λ k b later. first.2 k (from k b) later)
-
-not_both : (a b : RuleKey) → key_before a b ≡ true → key_before b a ≡ false
-not_both a b is = by (key_before b a) refl
-  where
-    by : (t : Bool) → key_before b a ≡ t → key_before b a ≡ false
-    by true t = absurd (true≢false (sym (key_order.chain a b a is t) ∙ key_order.itself a))
-    by false t = t
-
--- one that doesn't come before a second isn't before a third that the second doesn't come before
-neither : (k m j : RuleKey) → key_before k m ≡ false → key_before j m ≡ true → key_before k j ≡ false
-neither k m j first second = by (key_before k j) refl
-  where
-    by : (t : Bool) → key_before k j ≡ t → key_before k j ≡ false
-    by true t = absurd (true≢false (sym (key_order.chain k j m t second) ∙ first))
-    by false t = t
 
 -- one key more
 abbrev With : (RuleKey → Type 0) → RuleKey → RuleKey → Type 0
@@ -83,7 +68,7 @@ one_more last A (Some m) j first = by (is_after last j) refl (key_before j m) re
     by true t true b = (inr refl, t, each)
       where
         each : (k : RuleKey) → With A j k → is_after last k ≡ true → key_before k j ≡ false
-        each k (inl a) later = neither k m j (first.2 k a later) b
+        each k (inl a) later = not_after key_before key_order j k m b (first.2 k a later)
         each k (inr is) later = ap (λ i. key_before i j) is ∙ key_order.itself j
     by true t false b = (inl first.0, first.1, each)
       where
@@ -219,7 +204,7 @@ next_place (e ∷ es) up (suc zero) within = past_first e.0 e es (key_order.itse
 next_place (e ∷ es) up (suc (suc i)) within =
     let last = at_place es i (omega (arith, within)) in
     let before : key_before e.0 last.0.0 ≡ true = among es i last.0 (λ j. key_before e.0 j ≡ true) last.1 up.0 in
-    ap (λ o. first_after (option_map (λ r. r.0) o) (e ∷ es)) last.1 ∙ past_first last.0.0 e es (not_both e.0 last.0.0 before)
+    ap (λ o. first_after (option_map (λ r. r.0) o) (e ∷ es)) last.1 ∙ past_first last.0.0 e es (one_way key_before key_order e.0 last.0.0 before)
     ∙ sym (ap (λ o. first_after (option_map (λ r. r.0) o) es) last.1) ∙ next_place es up.1 (suc i) (omega (arith, within))
 
 pub next_key : (es : Rules) → Ascends key_before es → (i : ℕ) → i < length es → first_after (key_until es i) es ≡ key_until es (i + 1)
@@ -227,6 +212,11 @@ next_key es up i within = let more : i + 1 ≡ suc i = omega arith in next_place
 
 pub last_key : (es : Rules) (i : ℕ) (e : RuleKey × Option RuleTarget) → slice_get es i ≡ Some e → key_until es (i + 1) ≡ Some e.0
 last_key es i e is = let more : i + 1 ≡ suc i = omega arith in ap (key_until es) more ∙ ap (λ o. option_map (λ r. r.0) o) is
+
+-- what comes after the key before a place is the key of the place
+pub key_after : (es : Rules) → Ascends key_before es → (i : ℕ) (within : i < length es) {last after : Option RuleKey} → last ≡ key_until es i → after ≡ first_after last es
+    → after ≡ Some (at_place es i within).0.0
+key_after es up i within is after = after ∙ ap (λ o. first_after o es) is ∙ next_key es up i within ∙ last_key es i (at_place es i within).0 (at_place es i within).1
 
 pub from_place : (es : Rules) (i : ℕ) (e : RuleKey × Option RuleTarget) → slice_get es i ≡ Some e → drop i es ≡ e ∷ drop (i + 1) es
 from_place [] i e is = absurd cc

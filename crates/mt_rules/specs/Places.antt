@@ -1,5 +1,5 @@
 -- Names, each with the places of its four keys, and the rules that stand at these in the order of their keys.
-use Rattle.std.specs.Prelude.{ℕ, ◌+◌, Bool, true, false, List, [], ◌∷◌, ◌++◌, flat_map, find, is_some, unwrap_or, Option, None, Some, option_and_then, option_map}
+use Rattle.std.specs.Prelude.{ℕ, ◌+◌, ◌||◌, Bool, true, false, List, [], ◌∷◌, ◌++◌, flat_map, find, is_some, unwrap_or, Option, None, Some, option_and_then, option_map}
 use Rattle.std.specs.Hash as fed
 use Rattle.std.specs.Int.{from_bool}
 use Rattle.std.specs.Map.{lookup, set_value}
@@ -57,9 +57,12 @@ released_four four = released_at (released_at (released_at (released_at four (So
 abbrev pub blank_count : FourPlaces → ℕ
 blank_count four = from_bool (is_blank four.all) + from_bool (is_blank four.primary) + from_bool (is_blank four.replica) + from_bool (is_blank four.rdonly)
 
--- whether a place has a rule, and how many of the four have one
+-- whether a place has a rule, whether one of the four has one, and how many have
 abbrev pub is_ruled : Place → Bool
 is_ruled place = is_some (unwrap_or place None)
+
+abbrev pub any_ruled : FourPlaces → Bool
+any_ruled four = is_ruled four.all || is_ruled four.primary || is_ruled four.replica || is_ruled four.rdonly
 
 abbrev pub ruled_count : FourPlaces → ℕ
 ruled_count four = from_bool (is_ruled four.all) + from_bool (is_ruled four.primary) + from_bool (is_ruled four.replica) + from_bool (is_ruled four.rdonly)

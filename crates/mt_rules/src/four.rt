@@ -1,5 +1,5 @@
 //! The places of a name's four keys.
-ghost use Rattle.std.specs.Prelude.{◌≡◌, true, option_copied, Some, None};
+ghost use Rattle.std.specs.Prelude.{◌≡◌, ◌↔◌, true, option_copied, Some, None};
 ghost use Rattle.mt_rules.specs.Places.{is_blank, no_places, place_at, released, with_place_at};
 ghost use Rattle.mt_rules.specs.Rules.{lent_rule};
 
@@ -29,7 +29,7 @@ impl FourPlaces {
 
     /// Whether there is no place.
     pub(crate) fn is_empty(&self) -> bool
-        ensures { result ≡ true → self.now ≡ no_places }
+        ensures { (result ≡ true) ↔ (self.now ≡ no_places) }
     {
         self.all.is_none()
             && self.primary.is_none()

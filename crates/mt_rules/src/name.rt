@@ -1,8 +1,7 @@
 //! Names of rule keys, and the places of a name in memory of their own.
-ghost use Rattle.std.specs.Prelude.{◌≡◌, ℕ, List, Option, true, false, IfOk, is_some, option_copied, Some, None};
+ghost use Rattle.std.specs.Prelude.{◌≡◌, ◌↔◌, ℕ, List, true, IfOk, is_some, option_copied, Some, None};
 ghost use Rattle.std.specs.Option.{unwrap_or};
-ghost use Rattle.mt_names.specs.declared.types.TabletType.{TabletType};
-ghost use Rattle.mt_rules.specs.Places.{blank_count, key_of, name_of, no_places, place_at, released_four, ruled_count, with_place_at};
+ghost use Rattle.mt_rules.specs.Places.{any_ruled, blank_count, key_of, name_of, no_places, place_at, released_four, ruled_count, with_place_at};
 ghost use Rattle.mt_rules.specs.Rules.{lent_rule};
 
 use crate::four::FourPlaces;
@@ -103,7 +102,7 @@ impl NamePlaces {
 
     /// Whether there is no place.
     pub(crate) fn is_empty(&self) -> bool
-        ensures { result ≡ true → self.now ≡ no_places }
+        ensures { (result ≡ true) ↔ (self.now ≡ no_places) }
     {
         self.four.is_empty()
     }
@@ -124,7 +123,7 @@ impl NamePlaces {
 
     /// Whether one of the four keys has a rule. It takes no memory.
     pub fn has_rule(&self) -> bool
-        ensures { result ≡ false → (type : Option TabletType) → unwrap_or (place_at self.now type) None ≡ None }
+        ensures { result ≡ any_ruled self.now }
     {
         self.rule(None).is_some()
             || self.rule(Some(TabletType::Primary)).is_some()

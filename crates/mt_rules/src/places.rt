@@ -1,5 +1,5 @@
 //! Places of rule keys, in the order of these, whatever the order in which they were made.
-ghost use Rattle.std.specs.Prelude.{◌≡◌, [], Option, None, Some, true, false, fold, length, is_some, option_and_then, option_copied, reverse, unwrap_or, OnOk, OnErr};
+ghost use Rattle.std.specs.Prelude.{◌≡◌, ◌↔◌, [], Option, None, Some, true, false, fold, length, is_some, option_and_then, option_copied, reverse, unwrap_or, OnOk, OnErr};
 ghost use Rattle.std.specs.List.{AllByRecursion, IsDistinct};
 ghost use Rattle.std.specs.Map.{keys_of, lookup, remove_entry, set_value};
 ghost use Rattle.std.specs.Option.{option_map_or};
@@ -8,7 +8,7 @@ ghost use Rattle.mt_names.specs.declared.types.TabletType.{TabletType};
 ghost use Rattle.mt_names.specs.Same.{same_key};
 ghost use Rattle.mt_model.specs.Order.{Ascends, key_before};
 ghost use Rattle.mt_model.specs.Topology.{put_rule, rule_at, rule_for, with_rule_place, without_rule_place};
-ghost use Rattle.mt_rules.specs.Places.{blank_count, key_of, place_at, place_in, released_four, rules_in, same_name, with_name, with_place_at};
+ghost use Rattle.mt_rules.specs.Places.{blank_count, key_of, no_places, place_at, place_in, released_four, rules_in, same_name, with_name, with_place_at};
 ghost use Rattle.mt_rules.specs.declared.four.FourPlaces.{FourPlaces};
 ghost use Rattle.mt_rules.specs.Rules.{four_keys, four_rules, has_rule_place, lent_rule, of_type, with_rules_set};
 
@@ -327,7 +327,7 @@ fn drop_if_empty(names: &mut IndexMap<RuleName, NamePlaces>, name: &RuleName)
 
 /// Whether a name is there none of whose keys has a place.
 fn is_empty_at(names: &IndexMap<RuleName, NamePlaces>, name: &RuleName) -> bool
-    ensures { result ≡ true → (type : Option TabletType) → place_in names.now.entries (key_of name.now type) ≡ None }
+    ensures { (result ≡ true) ↔ (lookup (same_name name.now) names.now.entries ≡ Some no_places) }
 {
     match names.get(name) {
         Some(places) => places.is_empty(),

@@ -6,7 +6,7 @@ ghost use Rattle.std.specs.Map.{keys_of};
 ghost use Rattle.std.specs.Ordering.{is_lt, nat_cmp};
 ghost use Rattle.mt_names.specs.Same.{same_key};
 ghost use Rattle.mt_model.specs.Limits.{most_rules};
-ghost use Rattle.mt_model.specs.Order.{key_before, key_code, keyspace_code, type_number};
+ghost use Rattle.mt_model.specs.Order.{key_before, key_code, keyspace_code};
 ghost use Rattle.mt_model.specs.Part.{rule_routes};
 ghost use Rattle.mt_rules.specs.Places.{entry_at, first_after, four_entries, is_after, key_of, listed, place_at, rules_in};
 ghost use Rattle.mt_rules.specs.Walk.{is_nearer, key_of_parts, listed_entry, nearest};
@@ -14,7 +14,7 @@ ghost use Rattle.mt_rules.specs.Walk.{is_nearer, key_of_parts, listed_entry, nea
 use crate::name::{NamePlaces, RuleName};
 use crate::places::Places;
 use indexmap::IndexMap;
-use mt_names::{KeyspaceName, RuleKey, RuleTarget, TableName, TabletType};
+use mt_names::{KeyspaceName, RuleKey, RuleTarget, TableName, TabletType, type_number};
 use std::alloc::{AllocError, Global};
 use std::cmp::Ordering;
 
@@ -226,17 +226,5 @@ fn compare_keyspaces(keyspace: Option<&KeyspaceName>, other: Option<&KeyspaceNam
             let other = other.as_str();
             keyspace.len().cmp(&other.len()).then(keyspace.cmp(other))
         }
-    }
-}
-
-/// The number of a type in the order of keys: 0 where a key is for all.
-fn type_number(tablet_type: Option<TabletType>) -> u8
-    ensures { result ≡ type_number tablet_type }
-{
-    match tablet_type {
-        None => 0,
-        Some(TabletType::Primary) => 1,
-        Some(TabletType::Replica) => 2,
-        Some(TabletType::Rdonly) => 3,
     }
 }

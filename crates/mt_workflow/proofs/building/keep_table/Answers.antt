@@ -10,4 +10,4 @@ returns-then-not-has_rule-clause-value c stood agree =
     let kept = c.args.kept.now.entries in
     let empty : length kept ≡ 0 = search rules in
     let absent : c.has_rule.result ≡ false = search rules in
-    nothing_kept c.args.rules.now kept stood (table_rule_keys c.args.source.now c.args.target.now c.args.table.now) (none_of kept empty) agree (c.has_rule.ensures absent)
+    nothing_kept c.args.rules.now kept stood (table_rule_keys c.args.source.now c.args.target.now c.args.table.now) (none_of kept empty) agree (c.has_rule.ensures.0 absent)

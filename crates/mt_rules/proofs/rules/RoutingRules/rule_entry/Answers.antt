@@ -1,24 +1,17 @@
 -- The rule of the next place, or one of a later one.
 use Rattle.std.proofs.Common.{ℕ, ◌≡◌, ◌<◌, ◌+◌, None, Some, drop, length, slice_get, arith, sym, ap, ap₂, ◌∙◌}
 use Rattle.mt_model.specs.declared.entries.Entry.TheVariants as entry
-use Rattle.mt_model.specs.Order.{Ascends, key_before}
 use Rattle.mt_model.specs.Part.{rule_routes}
-use Rattle.mt_model.specs.Topology.{Rules, rule_at}
-use Rattle.mt_rules.specs.Places.{first_after}
-use Rattle.mt_rules.proofs.WalkLemmas.{at_place, from_place, key_until, last_key, next_key, rule_at_key, ruled_first, ruled_later, unruled_first}
+use Rattle.mt_model.specs.Topology.{rule_at}
+use Rattle.mt_rules.proofs.WalkLemmas.{at_place, from_place, key_after, last_key, rule_at_key, ruled_first, ruled_later, unruled_first}
 use Rattle.mt_rules.proofs.rules.RoutingRules.rule_entry.Goals as goal
 use Rattle.mt_rules.proofs.rules.RoutingRules.rule_entry.Goals.{in-Some+else-left-eq0, in_default}
-
--- the key that comes after is that of the place
-next : (self : Rules) → Ascends key_before self → (i : ℕ) → (within : i < length self) → first_after (key_until self i) self ≡ Some (at_place self i within).0.0
-next self up i within = next_key self up i within ∙ last_key self i (at_place self i within).0 (at_place self i within).1
 
 pub returns-in_err-key : goal.returns-in_err-key
 returns-in_err-key c =
     let self = c.args.self.now in
     let within : c.loop.counter < length self = omega (arith, c.loop-test.true, c.len-end.ensures.len, ap length c.self.view_is) in
-    let is : None ≡ Some (at_place self c.loop.counter within).0.0 =
-    c.in_err-key.ensures ∙ ap (λ o. first_after o self) (c.as_ref.ensures.value ∙ c.loop.invariant.0) ∙ next self c.facts.ensures.ordered c.loop.counter within in
+    let is = key_after self c.facts.ensures.ordered c.loop.counter within (c.as_ref.ensures.value ∙ c.loop.invariant.0) c.in_err-key.ensures in
     absurd cc
 
 pub returns-then-left-eq0 : goal.returns-then-left-eq0
@@ -27,8 +20,7 @@ returns-then-left-eq0 c =
     let i = c.loop.counter in
     let within : i < length self = omega (arith, c.loop-test.true, c.len-end.ensures.len, ap length c.self.view_is) in
     let e = at_place self i within in
-    let both : Some c.in_ok-key.key ≡ Some e.0.0 =
-    c.in_ok-key.ensures ∙ ap (λ o. first_after o self) (c.as_ref.ensures.value ∙ c.loop.invariant.0) ∙ next self c.facts.ensures.ordered i within in
+    let both = key_after self c.facts.ensures.ordered i within (c.as_ref.ensures.value ∙ c.loop.invariant.0) c.in_ok-key.ensures in
     let key : c.in_ok-key.key ≡ e.0.0 = cc in
     let rule : Some c.in-Some.target.now ≡ e.0.1 = c.in-Some.ensures ∙ ap (rule_at self) key ∙ rule_at_key self c.facts.ensures.distinct i e.0 e.1 in
     ap₂ (λ k t. Some (entry.Rule k (Some t))) key c.copied.ensures
@@ -41,8 +33,7 @@ loop-preserved c =
     let i = c.loop.counter in
     let within : i < length self = omega (arith, c.loop-test.true, c.len-end.ensures.len, ap length c.self.view_is) in
     let e = at_place self i within in
-    let both : Some c.in_ok-key.key ≡ Some e.0.0 =
-    c.in_ok-key.ensures ∙ ap (λ o. first_after o self) (c.as_ref.ensures.value ∙ c.loop.invariant.0) ∙ next self c.facts.ensures.ordered i within in
+    let both = key_after self c.facts.ensures.ordered i within (c.as_ref.ensures.value ∙ c.loop.invariant.0) c.in_ok-key.ensures in
     let key : c.in_ok-key.key ≡ e.0.0 = cc in
     let rule : rule_at self c.in_ok-key.key ≡ e.0.1 = ap (rule_at self) key ∙ rule_at_key self c.facts.ensures.distinct i e.0 e.1 in
     let left = c.loop.invariant.1 ∙ ap (λ l. slice_get (rule_routes l) c.loop.left) (from_place self i e.0 e.1) in (
