@@ -1,5 +1,5 @@
 -- A table none of whose rule keys has a rule.
-use Rattle.std.proofs.Common.{◌≡◌, ◌↔◌, ◌×◌, ◌||◌, ⊤, ℕ, false, is_some, List, [], ◌∷◌, Option, None, Some, find, unwrap_or, option_and_then, refl, ap, sym, ◌∙◌}
+use Rattle.std.proofs.Common.{◌≡◌, ◌↔◌, ◌||◌, ℕ, false, is_some, List, [], ◌∷◌, Option, None, Some, find, unwrap_or, option_and_then, refl, ap, sym, ◌∙◌}
 use Rattle.std.proofs.lemmas.Bool.{true≢false}
 use Rattle.std.specs.List.{AllByRecursion}
 use Rattle.std.specs.Map.{lookup}
@@ -38,12 +38,12 @@ without_places rules keyspace table are =
     (none None, (none (Some Primary), (none (Some Replica), (none (Some Rdonly), tt))))
 
 -- else its keys have none where its places have none
-none_is : {A : Type 0} (a b c d : Option A) → ((is_some a || is_some b || is_some c || is_some d) ≡ false) ↔ (a ≡ None) × (b ≡ None) × (c ≡ None) × (d ≡ None) × ⊤
+none_is : {A : Type 0} (a b c d : Option A) → ((is_some a || is_some b || is_some c || is_some d) ≡ false) ↔ (a ≡ None) × (b ≡ None) × (c ≡ None) × (d ≡ None)
 none_is (Some x) b c d = (λ e. absurd (true≢false e), λ are. absurd (true≢false (ap is_some are.0)))
-none_is None (Some x) c d = (λ e. absurd (true≢false e), λ are. absurd (true≢false (ap is_some are.1.0)))
-none_is None None (Some x) d = (λ e. absurd (true≢false e), λ are. absurd (true≢false (ap is_some are.1.1.0)))
-none_is None None None (Some x) = (λ e. absurd (true≢false e), λ are. absurd (true≢false (ap is_some are.1.1.1.0)))
-none_is None None None None = (λ e. (refl, (refl, (refl, (refl, tt)))), λ are. refl)
+none_is None (Some x) c d = (λ e. absurd (true≢false e), λ are. absurd (true≢false (ap is_some are.1)))
+none_is None None (Some x) d = (λ e. absurd (true≢false e), λ are. absurd (true≢false (ap is_some are.2)))
+none_is None None None (Some x) = (λ e. absurd (true≢false e), λ are. absurd (true≢false (ap is_some are.3)))
+none_is None None None None = (λ e. (refl, refl, refl, refl), λ are. refl)
 
 pub without_rules : (rules : Rules) (keyspace : Option (List ℕ)) (table : List ℕ) (four : FourPlaces) → AreFound rules keyspace table (Some four)
     → (any_ruled four ≡ false) ↔ NoneHas rules (keys_of_name keyspace table)
@@ -53,9 +53,10 @@ without_rules rules keyspace table four are =
     let primary = is (Some Primary) in
     let replica = is (Some Replica) in
     let rdonly = is (Some Rdonly) in
-    let none = none_is (unwrap_or four.all None) (unwrap_or four.primary None) (unwrap_or four.replica None) (unwrap_or four.rdonly None) in
-    ( λ blank. let have = none.0 blank in (all ∙ have.0, (primary ∙ have.1.0, (replica ∙ have.1.1.0, (rdonly ∙ have.1.1.1.0, tt))))
-    , λ have. none.1 (sym all ∙ have.0, (sym primary ∙ have.1.0, (sym replica ∙ have.1.1.0, (sym rdonly ∙ have.1.1.1.0, tt)))) )
+    let none = none_is (unwrap_or four.all None) (unwrap_or four.primary None) (unwrap_or four.replica None) (unwrap_or four.rdonly None) in (
+      λ blank. let have = none.0 blank in (all ∙ have.0, (primary ∙ have.1, (replica ∙ have.2, (rdonly ∙ have.3, tt)))),
+      λ have. none.1 (sym all ∙ have.0, sym primary ∙ have.1.0, sym replica ∙ have.1.1.0, sym rdonly ∙ have.1.1.1.0),
+    )
 
 -- ---- none leads elsewhere
 

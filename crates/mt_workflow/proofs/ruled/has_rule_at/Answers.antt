@@ -12,7 +12,8 @@ returns-in-Some c =
     (λ type. ap (λ o. option_and_then (λ four. place_at four type) (option_copied o)) (sym c.in-Some.is) ∙ c.name.ensures type))
 
 pub returns-in-None : goal.returns-in-None
-returns-in-None c =
-    ( λ absent. without_places c.args.rules.now (option_copied c.args.keyspace) c.args.table.now
-        (λ type. ap (λ o. option_and_then (λ four. place_at four type) (option_copied o)) (sym c.in-None.is) ∙ c.name.ensures type)
-    , λ none. refl )
+returns-in-None c = (
+  λ absent. without_places c.args.rules.now (option_copied c.args.keyspace) c.args.table.now
+      (λ type. ap (λ o. option_and_then (λ four. place_at four type) (option_copied o)) (sym c.in-None.is) ∙ c.name.ensures type),
+  λ none. refl,
+)
