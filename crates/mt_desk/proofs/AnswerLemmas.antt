@@ -1,18 +1,20 @@
 -- What may be given up is kept in place, and so is its answer.
-use Rattle.std.proofs.Common.{◌≡◌, ℕ, Bool, true, false, not, List, Option, None, Some, is_some, Result, Ok, Err, refl, sym, ap, ◌∙◌}
+use Rattle.std.proofs.Common.{◌≡◌, ℕ, Bool, true, false, not, List, Option, None, Some, is_some, Result, Ok, Err, refl, sym, ap, subst, ◌∙◌}
 use Rattle.std.proofs.Math.Logic.{∥∥₁_elim}
 use Rattle.std.proofs.Props.{props}
 use Rattle.std.proofs.lemmas.Bool.{true≢false}
 use Rattle.std.specs.Option.{option_map_or}
-use Rattle.std.specs.Prelude.{⊤, ◌==◌, ◌||◌, IsOk, OnErr, is_ok}
-use Rattle.mt_event.specs.declared.reason.Reason.{Reason}
+use Rattle.std.specs.Prelude.{◌==◌, ◌||◌, IsOk, OnErr, is_ok}
 use Rattle.mt_event.specs.declared.refusal.Refusal as code_refusal
 use Rattle.mt_event.specs.declared.refusal.Refusal.TheVariants as refusal
 use Rattle.mt_event.specs.declared.reply.Reply.{Reply}
 use Rattle.mt_event.specs.declared.reply.Reply.TheVariants as reply
 use Rattle.mt_event.specs.Events.{answer_from, shown_from}
-use Rattle.mt_event.specs.Reasons.{done_by}
-use Rattle.mt_event.specs.CompactAnswers.{may_stand_apart, read_answer, write_answer}
+use Rattle.mt_event.specs.declared.ask.Ask.{Ask}
+use Rattle.mt_event.specs.declared.reply.Told.{Told}
+use Rattle.mt_event.specs.declared.reply.Told.TheVariants as told_by
+use Rattle.mt_event.specs.Asks.{event_of_ask}
+use Rattle.mt_event.specs.CompactAnswers.{may_stand_apart, said_by}
 use Rattle.mt_model.specs.declared.entries.Scope.{Scope}
 use Rattle.mt_model.specs.Rows.{RowValue}
 use Rattle.mt_plain.specs.Answers.{Answers, advanced_of, lane_advanced_of}
@@ -20,12 +22,14 @@ use Rattle.mt_plain.specs.Events as plain
 use Rattle.mt_plain.specs.Events.{Answer, Event, Refusal, StreamName, Way, add_keyspace, add_table, advance, begin_reverse, begin_switch, cancel, complete, create, edit_rule, read, row, show, step, undo, write, nothing_under_way, past_journal, rule_conflict, stale, target_has_table, traffic_switched, under_way}
 use Rattle.mt_plain.specs.Plain.{Lane, Live, Plain, lane_at, live_at, stands_done, write_journal}
 use Rattle.mt_plain.specs.Refuse.{cancel_refusal, in_workflow, or_else, refusal_of, refuse_if, undo_refusal}
+use Rattle.mt_site.specs.Applied.{Applied}
 use Rattle.mt_site.specs.Applies.{AppliesAndPurges}
-use Rattle.mt_site.specs.ByHand.{read_from}
+use Rattle.mt_site.specs.Asks.{answer_of}
 use Rattle.mt_site.specs.Stood.{IsCoreWith}
 use Rattle.mt_stands.specs.Base.{BaseState}
 use Rattle.mt_stands.specs.Ways.{CoreState, CoreSteps, WaysState}
 use Rattle.mt_watch.specs.Asking.{Answering}
+use Rattle.mt_desk.specs.Kept.{is_show, may_take_memory}
 use Rattle.mt_desk.specs.Room.{gives_up, is_undo_or_cancel}
 
 -- ---- refusals that tell a name
@@ -91,16 +95,6 @@ pub up_is_short : (s : CoreState) (e : Event) → gives_up s e ≡ true → is_u
 up_is_short s (undo workflow at) is = refl
 up_is_short s (cancel workflow) is = refl
 up_is_short s other is = absurd (true≢false (sym is))
-
--- ---- what the core tells of a row
-
-pub write_told : (told : Result ⊤ Reason) → answer_from (write_answer told) ≡ done_by told
-write_told (Ok done) = refl
-write_told (Err reason) = refl
-
-pub read_told : (told : Result (Option RowValue) Reason) → answer_from (read_answer told) ≡ read_from told
-read_told (Ok found) = refl
-read_told (Err reason) = refl
 
 -- ---- answers that may take memory
 
@@ -172,12 +166,52 @@ looked scopes may_answer old new other a is does = absurd (true≢false (sym is)
 
 -- so what is answered so has changed nothing
 pub nothing_changed : (scopes : List Scope) (may_answer : Answering) (old new : CoreState) → IsCoreWith scopes old → (e : Event) (a : Result Reply code_refusal.Refusal)
-    → CoreSteps scopes old e (answer_from a) new → AppliesAndPurges scopes may_answer old e (answer_from a) new → OnErr a (new ≡ old) → may_stand_apart a ≡ true → new ≡ old
-nothing_changed scopes may_answer old new stood e (Err r) steps does same long = same
-nothing_changed scopes may_answer old new stood e (Ok x) steps does same long =
-    looked scopes may_answer old new e (answer_from (Ok x)) (∥∥₁_elim stood (hlevel props) (λ (p, stands). looks_only p e (Ok x) ((steps p stands).0) refl long)) does
+    → Applied scopes may_answer old e (answer_from a) new → may_stand_apart a ≡ true → new ≡ old
+nothing_changed scopes may_answer old new stood e (Err r) applied long = applied.unchanged refl
+nothing_changed scopes may_answer old new stood e (Ok x) applied long =
+    looked scopes may_answer old new e (answer_from (Ok x)) (∥∥₁_elim stood (hlevel props) (λ (p, stands). looks_only p e (Ok x) ((applied.steps p stands).0) refl long)) applied.applies
 
--- where an answer isn't kept, it may take memory
+-- ---- what the core tells, before it is kept
+
+-- what it tells of all but a workflow is an answer
+said : (s : CoreState) (asked : Ask) (told : Result Told code_refusal.Refusal) (a : Result Reply code_refusal.Refusal) → said_by told ≡ Some a → answer_of s asked told ≡ answer_from a
+said s asked (Ok told_by.Done) a is = let same : Ok reply.Done ≡ a = cc in ap answer_from same
+said s asked (Ok (told_by.Row found)) a is = let same : Ok (reply.Row found) ≡ a = cc in ap answer_from same
+said s asked (Ok (told_by.Advanced counts)) a is = let same : Ok (reply.Advanced counts) ≡ a = cc in ap answer_from same
+said s asked (Ok told_by.Shown) a is = absurd (cc is)
+said s asked (Err why) a is = let same : Err why ≡ a = cc in ap answer_from same
+
+not_show : (e : Event) → is_undo_or_cancel e ≡ true → is_show e ≡ false
+not_show (undo workflow at) is = refl
+not_show (cancel workflow) is = refl
+not_show other is = absurd (true≢false (sym is))
+
+show_looks : (e : Event) → is_show e ≡ true → changes_nothing e ≡ true
+show_looks (show workflow) is = refl
+show_looks other is = absurd (true≢false (sym is))
+
+-- of an undo and a Cancel it takes no memory to keep it
+pub told_in_place : (scopes : List Scope) (now later : CoreState) → IsCoreWith scopes now → (asked : Ask) (told : Result Told code_refusal.Refusal)
+    → CoreSteps scopes now (event_of_ask asked) (answer_of later asked told) later → is_undo_or_cancel (event_of_ask asked) ≡ true → may_take_memory (event_of_ask asked) told ≡ false
+told_in_place scopes now later stood asked told steps is = by (said_by told) refl
+  where
+    by : (o : Option (Result Reply code_refusal.Refusal)) → said_by told ≡ o → option_map_or may_stand_apart o (is_show (event_of_ask asked)) ≡ false
+    by None said_is = not_show (event_of_ask asked) is
+    by (Some a) said_is = answer_in_place scopes now later stood (event_of_ask asked) a (subst (λ answer. CoreSteps scopes now (event_of_ask asked) answer later) (said later asked told a said_is) steps) is
+
+-- where it may take some, nothing has changed
+pub told_unchanged : (scopes : List Scope) (may_answer : Answering) (now later : CoreState) → IsCoreWith scopes now → (asked : Ask) (told : Result Told code_refusal.Refusal)
+    → Applied scopes may_answer now (event_of_ask asked) (answer_of later asked told) later → may_take_memory (event_of_ask asked) told ≡ true → later ≡ now
+told_unchanged scopes may_answer now later stood asked told applied long = by (said_by told) refl long
+  where
+    by : (o : Option (Result Reply code_refusal.Refusal)) → said_by told ≡ o → option_map_or may_stand_apart o (is_show (event_of_ask asked)) ≡ true → later ≡ now
+    by None said_is is = looked scopes may_answer now later (event_of_ask asked) (answer_of later asked told) (show_looks (event_of_ask asked) is) applied.applies
+    by (Some a) said_is is =
+        nothing_changed scopes may_answer now later stood (event_of_ask asked) a (subst (λ answer. Applied scopes may_answer now (event_of_ask asked) answer later) (said later asked told a said_is) applied) is
+
+-- ---- where an answer isn't kept
+
+-- it may take memory
 pub long_where_refused : {T E : Type 0} (b : Bool) (r : Result T E) → (b ≡ false → IsOk r) → ((x : T) → r ≡ Ok x → ⊥) → b ≡ true
 long_where_refused true r short isnt = refl
 long_where_refused false (Ok x) short isnt = absurd (isnt x refl)

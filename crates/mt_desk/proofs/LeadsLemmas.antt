@@ -13,6 +13,8 @@ use Rattle.mt_plain.specs.Answers.{Answers, IsLegal, Run, after}
 use Rattle.mt_plain.specs.Events as plain
 use Rattle.mt_plain.specs.Next.{next}
 use Rattle.mt_plain.specs.Plain.{Plain}
+use Rattle.mt_watch.specs.Asking.{Answering}
+use Rattle.mt_site.specs.Applied.{Applied}
 use Rattle.mt_site.specs.GivenUp.{CanBeGivenUp}
 use Rattle.mt_site.specs.Stood.{IsCoreWith}
 use Rattle.mt_stands.specs.Purges.{IsPurged}
@@ -75,6 +77,12 @@ with_its_line : (scopes : List Scope) (opening now later : CoreState) (lines : L
     → IfOk result (λ answer. (then : CoreState) × Leads scopes opening (lines ++ line client event answer ∷ []) then)
 with_its_line scopes opening now later lines client event (Ok answer) leads steps = (later, leads_more scopes opening now later lines (line client event answer) leads steps)
 with_its_line scopes opening now later lines client event (Err fault) leads steps = steps
+
+-- what is answered steps, with the scopes of the watchers
+pub step_of : (scopes its : List Scope) (may_answer : Answering) (now later : CoreState) (event : plain.Event) (result : Result (Result Reply Refusal) DeskFault) → its ≡ scopes
+    → IfOk result (λ r. Applied its may_answer now event (answer_from r) later) → IfOk result (λ r. CoreSteps scopes now event (answer_from r) later)
+step_of scopes its may_answer now later event (Ok r) same applied = subst (λ s. CoreSteps s now event (answer_from r) later) same applied.steps
+step_of scopes its may_answer now later event (Err fault) same applied = tt
 
 pub taken : (scopes : List Scope) (opening now later : CoreState) (lines : List Line) (client : ℕ) (event : Event) (result : Result (Result Reply Refusal) DeskFault)
     → ∥ Leads scopes opening lines now ∥₁ → IfOk result (λ r. CoreSteps scopes now (event_of event) (answer_from r) later)

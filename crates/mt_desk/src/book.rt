@@ -2,11 +2,12 @@
 ghost use Rattle.std.specs.Prelude.{◌≡◌, ◌+◌, ◌≤◌, ◌++◌, List, [], ◌∷◌, IfErr, IfNone, IfOk, IfSome, MatchBool, OnErr, OnOk, Ok, length, map, option_map, true, false};
 ghost use Rattle.std.specs.Vec.{vec_capacity, vec_len};
 ghost use Rattle.mt_event.specs.declared.reply.Reply.TheVariants.{Done};
-ghost use Rattle.mt_event.specs.Events.{answer_from, event_of};
+ghost use Rattle.mt_event.specs.Asks.{event_of_ask, owned};
+ghost use Rattle.mt_event.specs.Events.{answer_from};
 ghost use Rattle.mt_plain.specs.Events as plain;
 ghost use Rattle.mt_plain.specs.Plain.{Plain};
 ghost use Rattle.mt_laws.specs.Headline.{Headline};
-ghost use Rattle.mt_site.specs.Applies.{AppliesAndPurges};
+ghost use Rattle.mt_site.specs.Applied.{Applied};
 ghost use Rattle.mt_site.specs.GivenUp.{CanBeGivenUp};
 ghost use Rattle.mt_site.specs.Owed.{owed_to};
 ghost use Rattle.mt_site.specs.Stood.{IsCoreWith};
@@ -31,7 +32,7 @@ use crate::room::{make_room, new_history};
 use crate::tell::{first_of, next_of};
 use crate::{DeskFault, DeskName, Pass};
 use indexmap::IndexSet;
-use mt_event::{CompactAnswer, CompactEvent, Event};
+use mt_event::{Ask, CompactAnswer, CompactEvent};
 use mt_laws::{
     each_event_owes_one_at_most, every_run_keeps_the_headline, routes_of_what_is_served_are_a_view,
 };
@@ -201,7 +202,7 @@ impl<D: DeskName> Book<D> {
         Ok(self.publish(rt, next))
     }
 
-    /// Applies an event, as `Core::apply` tells, and adds its line to the history. The line keeps `kept`, which is the event, and the answer, which whoever
+    /// Applies what is asked for, as `Core::apply` tells, and adds its line to the history. The line keeps `kept`, which is its event, and the answer, which whoever
     /// asked shares. `K0 Memory` where there is no place for the line and for the events that are owed, or no memory for the answer to a read or a Show,
     /// or for a refusal that tells a name: then no event was taken. Nothing is published. An undo with the right number before the journal, and a
     /// Cancel where nothing is switched and no way is open, take no memory and are done. (Vitess: a vtctldclient command, or a query at a primary)
@@ -209,30 +210,29 @@ impl<D: DeskName> Book<D> {
         &mut self,
         watchers: &W,
         client: u16,
-        event: &Event,
+        ask: Ask<'_>,
         kept: CompactEvent,
     ) -> Result<CompactAnswer, DeskFault>
         requires scopes { W.scopes watchers.now ≡ D.scopes }
-        requires kept { kept ≡ event.now }
-        ensures line { IfOk result (λ r. self.new.history.items ≡ self.old.history.items ++ line client event.now r ∷ []) }
-        ensures applies { IfOk result (λ r. AppliesAndPurges (W.scopes watchers.now) (W.may_answer watchers.now) self.old.core (event_of event.now) (answer_from r) self.new.core) }
-        ensures steps { IfOk result (λ r. CoreSteps (W.scopes watchers.now) self.old.core (event_of event.now) (answer_from r) self.new.core) }
+        requires kept { kept ≡ owned ask }
+        ensures line { IfOk result (λ r. self.new.history.items ≡ self.old.history.items ++ line client (owned ask.entry) r ∷ []) }
+        ensures applied { IfOk result (λ r. Applied (W.scopes watchers.now) (W.may_answer watchers.now) self.old.core (event_of_ask ask.entry) (answer_from r) self.new.core) }
         ensures none { OnErr result ((self.new.history.items ≡ self.old.history.items) × (self.new.core ≡ self.old.core)) }
         ensures clients { self.new.clients.keys ≡ self.old.clients.keys }
         ensures told { self.new.told ≡ self.old.told }
         ensures memory { IfErr result (λ fault. fault ≡ DeskFault.Memory) }
-        ensures given_up { CanBeGivenUp self.old.core (event_of event.now) → result ≡ Ok (Ok Done) }
+        ensures given_up { CanBeGivenUp self.old.core (event_of_ask ask.entry) → result ≡ Ok (Ok Done) }
         ensures purged { IsPurged self.old.core.base → IsPurged self.new.core.base }
-        ensures places { CanBeGivenUp self.old.core (event_of event.now) → vec_capacity self.new.history ≡ vec_capacity self.old.history }
+        ensures places { CanBeGivenUp self.old.core (event_of_ask ask.entry) → vec_capacity self.new.history ≡ vec_capacity self.old.history }
     {
         each_event_owes_one_at_most();
         a_base_owes_what_its_state_owes();
         let Book { core, history, .. } = self;
-        if !make_room(history, core, event) {
+        if !make_room(history, core, ask) {
             return Err(DeskFault::Memory);
         }
         let alloc = *history.allocator();
-        let Ok((answer, told)) = answered(alloc, core, watchers, event) else {
+        let Ok((answer, told)) = answered(alloc, core, watchers, ask) else {
             return Err(DeskFault::Memory);
         };
         history.push_reserved(Line {

@@ -47,7 +47,7 @@ impl<D: DeskName, W: Asks + Drop> Desk<D, W> {
         requires stood { IsCoreWith D.scopes site.core }
         ensures memory { IfErr result (λ fault. fault ≡ DeskFault.Memory) }
     {
-        let (core, watchers) = site.into_parts();
+        let Site { core, watchers } = site;
         let book = Book::open(alloc, rt, blank, opened, core)?;
         Ok(Desk {
             alloc,
@@ -80,14 +80,14 @@ impl<D: DeskName, W: Asks + Drop> Desk<D, W> {
             → IsTaken D.scopes D.opening pass.old.client event result }
     {
         pass.make_place()?;
-        let Ok(line) = CompactEvent::new(self.alloc, &event) else {
+        let Ok(line) = CompactEvent::new(self.alloc, event.ask()) else {
             return Err(DeskFault::Memory);
         };
         let Ok(call) = line.again() else {
             return Err(DeskFault::Memory);
         };
         let client = pass.client();
-        let taken = self.locked.lock(rt).take(client, &event, line);
+        let taken = self.locked.lock(rt).take(client, event.ask(), line);
         let told = match taken {
             Ok(told) => told,
             Err(fault) => return Err(fault),

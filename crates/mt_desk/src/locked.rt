@@ -1,5 +1,6 @@
 //! What lies under the lock.
 ghost use Rattle.std.specs.Prelude.{◌≡◌, ◌⊎◌, false, true, IfErr, IfOk, OnOk, map};
+ghost use Rattle.mt_event.specs.Asks.{owned};
 ghost use Rattle.mt_model.specs.declared.entries.Scope.TheVariants.{Routes};
 ghost use Rattle.mt_watch.specs.Scopes.{has_scope};
 ghost use Rattle.mt_desk.specs.Taken.{IsTaken};
@@ -7,7 +8,7 @@ ghost use Rattle.mt_desk.specs.Fronts.{Published, Tells, TellsNone};
 ghost use Rattle.mt_desk.specs.Passes.{HaveOneHistory, IsCaused};
 
 use crate::{Book, DeskFault, DeskName, Pass};
-use mt_event::{CompactAnswer, CompactEvent, Event};
+use mt_event::{Ask, CompactAnswer, CompactEvent};
 use mt_routes::{Router, Told};
 use mt_watch::Asks;
 use std::alloc::Global;
@@ -26,15 +27,15 @@ impl<D: DeskName, W: Asks + Drop> Locked<D, W> {
     pub(crate) fn take(
         &mut self,
         client: u16,
-        event: &Event,
+        ask: Ask<'_>,
         kept: CompactEvent,
     ) -> Result<CompactAnswer, DeskFault>
-        requires { kept ≡ event.now }
-        ensures taken { IsTaken D.scopes D.opening client event.now result }
+        requires { kept ≡ owned ask }
+        ensures taken { IsTaken D.scopes D.opening client (owned ask.entry) result }
         ensures memory { IfErr result (λ fault. fault ≡ DeskFault.Memory) }
     {
         let Locked { book, watchers, .. } = self;
-        book.take(watchers, client, event, kept)
+        book.take(watchers, client, ask, kept)
     }
 
     /// See `Book::admit`.

@@ -56,7 +56,7 @@ fn given_up_of<R: Wait, W: Asks + Drop>(
 ) -> Played
     requires { IsCoreWith (W.scopes site.watchers) site.core }
 {
-    let (core, watchers) = site.into_parts();
+    let Site { core, watchers } = site;
     let told = given_up_at_a_book(rt, alloc, core, &watchers, workflow, 1);
     drop(watchers);
     played(told)

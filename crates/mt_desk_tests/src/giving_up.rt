@@ -42,10 +42,10 @@ fn take_back<D: DeskName, W: Asks>(
     ensures leaves { Leaves (W.scopes watchers.now) book.old.core (event_of event.now) result book.new.core }
     ensures line { IfOk result (λ r. book.new.history.items ≡ book.old.history.items ++ line 0 event.now r ∷ []) }
 {
-    let Ok(kept) = CompactEvent::new(alloc, event) else {
+    let Ok(kept) = CompactEvent::new(alloc, event.ask()) else {
         return Err(DeskFault::Memory);
     };
-    let told = book.take(watchers, 0, event, kept)?;
+    let told = book.take(watchers, 0, event.ask(), kept)?;
     Ok(told.copied())
 }
 

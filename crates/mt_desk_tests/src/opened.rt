@@ -14,7 +14,7 @@ use crate::together::two_controllers;
 use crate::told_memory::is_told_all;
 use crate::turns::{Turns, in_turn};
 use mt_desk::{Desk, DeskFault, DeskName};
-use mt_event::{Reason, Refusal};
+use mt_event::{Event, Reason, Refusal, Reply};
 use mt_names::KeyspaceName;
 use mt_routes::Opened;
 use mt_site::Site;
@@ -144,6 +144,13 @@ fn watchers_of(alloc: Global, watch: Watch) -> Option<Watchers> {
     None
 }
 
+/// The answer to an event: there goes on to be a state that the controller stands for.
+fn answer<W: Asks>(site: &mut Site<W>, event: &Event) -> Result<Reply, Refusal>
+    ensures { IsCoreWith (W.scopes site.old.watchers) site.old.core → IsCoreWith (W.scopes site.new.watchers) site.new.core }
+{
+    site.apply(event)
+}
+
 /// Whether an event is done, at once or at a second try where memory was short.
 fn applies<W: Asks>(site: &mut Site<W>, line: &str) -> bool
     ensures { IsCoreWith (W.scopes site.old.watchers) site.old.core → IsCoreWith (W.scopes site.new.watchers) site.new.core }
@@ -151,9 +158,9 @@ fn applies<W: Asks>(site: &mut Site<W>, line: &str) -> bool
     let Some(event) = event_of(line) else {
         return false;
     };
-    match site.apply(&event) {
+    match answer(site, &event) {
         Ok(_) => true,
-        Err(Refusal::Other(Reason::Memory)) => site.apply(&event).is_ok(),
+        Err(Refusal::Other(Reason::Memory)) => answer(site, &event).is_ok(),
         Err(_) => false,
     }
 }

@@ -1,8 +1,8 @@
+pub mod Asks
 pub mod CompactAnswers
 pub mod CompactEvents
 pub mod CompactOps
 pub mod Drives
 pub mod Events
-pub mod Kinds
 pub mod Reasons
 pub mod Same

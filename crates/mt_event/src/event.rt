@@ -1,5 +1,5 @@
 //! What is asked of the controller.
-use crate::tables::copied_tables;
+use crate::ask::{Ask, Verb};
 use arrayvec::ArrayVec;
 use mt_model::Op;
 use mt_names::{
@@ -125,115 +125,80 @@ pub enum Event {
 
 impl Event {
     ghost use Rattle.std.specs.Prelude.{◌≡◌, true};
-    ghost use Rattle.mt_event.specs.Kinds.{is_on_a_workflow, is_create_or_advance};
+    ghost use Rattle.mt_event.specs.Asks.{is_on_a_workflow, owned};
 
-    /// A copy. It takes no memory.
-    pub fn copied(&self) -> Self
-        ensures { result ≡ self.now }
+    /// What it asks, with its names lent. It takes no memory.
+    pub fn ask(&self) -> Ask<'_>
+        ensures { owned result ≡ self.now }
     {
         match self {
             Event::Write {
                 keyspace,
                 table,
                 op,
-            } => Event::Write {
-                keyspace: keyspace.copied(),
-                table: table.copied(),
-                op: op.copied(),
-            },
+            } => Ask::Write(keyspace, table, op),
             Event::Read {
                 keyspace,
                 table,
                 key,
                 type_of,
-            } => Event::Read {
-                keyspace: keyspace.copied(),
-                table: table.copied(),
-                key: *key,
-                type_of: *type_of,
-            },
-            Event::AddKeyspace { keyspace, shards } => Event::AddKeyspace {
-                keyspace: keyspace.copied(),
-                shards: shards.copied(),
-            },
-            Event::AddTable { keyspace, table } => Event::AddTable {
-                keyspace: keyspace.copied(),
-                table: table.copied(),
-            },
-            Event::EditRule { key, target } => Event::EditRule {
-                key: key.copied(),
-                target: target.as_ref().map(|target| target.copied()),
-            },
-            _ => self.copied_on_a_workflow(),
-        }
-    }
-
-    /// A copy of an event that names a workflow.
-    fn copied_on_a_workflow(&self) -> Self
-        requires { is_on_a_workflow self.now ≡ true }
-        ensures { result ≡ self.now }
-    {
-        match self {
-            Event::BeginSwitch { workflow, types } => Event::BeginSwitch {
-                workflow: workflow.copied(),
-                types: *types,
-            },
-            Event::BeginReverse { workflow, types } => Event::BeginReverse {
-                workflow: workflow.copied(),
-                types: *types,
-            },
-            Event::Step { workflow, at } => Event::Step {
-                workflow: workflow.copied(),
-                at: *at,
-            },
-            Event::Undo { workflow, at } => Event::Undo {
-                workflow: workflow.copied(),
-                at: *at,
-            },
-            Event::Cancel { workflow } => Event::Cancel {
-                workflow: workflow.copied(),
-            },
-            Event::Complete { workflow } => Event::Complete {
-                workflow: workflow.copied(),
-            },
-            Event::Show { workflow } => Event::Show {
-                workflow: workflow.copied(),
-            },
-            _ => self.copied_move(),
-        }
-    }
-
-    /// A copy of a Create or of an advance.
-    fn copied_move(&self) -> Self
-        requires { is_create_or_advance self.now ≡ true }
-        ensures { result ≡ self.now }
-    {
-        match self {
+            } => Ask::Read(keyspace, table, *key, *type_of),
+            Event::AddKeyspace { keyspace, shards } => Ask::AddKeyspace(keyspace, shards),
+            Event::AddTable { keyspace, table } => Ask::AddTable(keyspace, table),
+            Event::EditRule { key, target } => Ask::EditRule(key, target.as_ref()),
             Event::Create {
                 workflow,
                 source,
                 target,
                 tables,
-            } => Event::Create {
-                workflow: workflow.copied(),
-                source: source.copied(),
-                target: target.copied(),
-                tables: copied_tables(tables.as_slice()),
+            } => Ask::Create {
+                workflow,
+                source,
+                target,
+                tables,
             },
+            _ => self.ask_on_a_workflow(),
+        }
+    }
+
+    /// What it asks of a workflow that is there.
+    fn ask_on_a_workflow(&self) -> Ask<'_>
+        requires { is_on_a_workflow self.now ≡ true }
+        ensures { owned result ≡ self.now }
+    {
+        match self {
             Event::Advance {
                 workflow,
                 stream,
                 shard,
                 at,
                 max,
-            } => Event::Advance {
-                workflow: workflow.copied(),
-                stream: *stream,
-                shard: *shard,
-                at: *at,
-                max: *max,
-            },
+            } => Ask::On(
+                workflow,
+                Verb::Advance {
+                    stream: *stream,
+                    shard: *shard,
+                    at: *at,
+                    max: *max,
+                },
+            ),
+            Event::BeginSwitch { workflow, types } => Ask::On(workflow, Verb::BeginSwitch(*types)),
+            Event::BeginReverse { workflow, types } => {
+                Ask::On(workflow, Verb::BeginReverse(*types))
+            }
+            Event::Step { workflow, at } => Ask::On(workflow, Verb::Step(*at)),
+            Event::Undo { workflow, at } => Ask::On(workflow, Verb::Undo(*at)),
+            Event::Cancel { workflow } => Ask::On(workflow, Verb::Cancel),
+            Event::Complete { workflow } => Ask::On(workflow, Verb::Complete),
+            Event::Show { workflow } => Ask::On(workflow, Verb::Show),
             _ => unreachable!(),
         }
+    }
+
+    /// A copy. It takes no memory.
+    pub fn copied(&self) -> Self
+        ensures { result ≡ self.now }
+    {
+        self.ask().event()
     }
 }

@@ -59,6 +59,19 @@ pub enum Reply {
     Shown(Shown),
 }
 
+/// What is told of what is asked and taken, in few bytes: a reply, but that what is told of a workflow stands in the core, which lends it.
+#[derive(Debug, Drop, Eq, PartialEq)]
+pub enum Told {
+    /// It is done.
+    Done,
+    /// The row that was read, if there is one.
+    Row(Option<Value>),
+    /// What an advance did.
+    Advanced(Advanced),
+    /// The workflow is there.
+    Shown,
+}
+
 impl Shown {
     ghost use Rattle.std.specs.Prelude.{◌≡◌};
     ghost use Rattle.mt_event.specs.Events.{lent_shown, shown_from};

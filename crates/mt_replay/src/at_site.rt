@@ -53,9 +53,9 @@ fn advance<W: Asks + Drop>(
     range: &KeyRange,
     words: &AdvanceWords<'_>,
 ) -> Told {
-    match at.site.shard(workflow, range) {
+    match at.site.core.shard(workflow, range) {
         Ok(shard) => told_of(at, advance_at(workflow, words, shard)),
-        Err(refusal) => Told::of_answer(&Err(refusal)),
+        Err(reason) => Told::of_answer(&Err(Refusal::from(reason))),
     }
 }
 
@@ -86,7 +86,7 @@ fn log<W: Asks>(site: &Site<W>, keyspace: &KeyspaceName, range: &Option<KeyRange
     let Some(place) = place_of(site, keyspace, range) else {
         return Told::of_text(b"none");
     };
-    match site.primary(keyspace, place) {
+    match site.core.primary(keyspace, place) {
         Some(primary) => Told::of_numbers(primary.first_kept(), primary.position()),
         None => Told::of_text(b"none"),
     }

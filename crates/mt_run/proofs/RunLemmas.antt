@@ -120,15 +120,10 @@ module _ (scopes : List Scope) (old : CoreState) (workflow : List ℕ) (stream :
   abbrev pub Found : Result ℕ Refusal → Type 0
   Found found = (p : Plain) → CoreStands p scopes old → found ≡ shard_of_range (live_at p workflow) range
 
-  -- the answer in the shard stands behind what waited
-  pub advanced_in : (new : CoreState) (shard : ℕ) (answer : Answer) (waiting waiting' : List ℕ) → waiting' ≡ waiting ++ plain.answer_text answer ++ line_feed → Found (Ok shard)
-      → CoreSteps scopes old (advance workflow stream shard at at_most) answer new → IsAnswered scopes old (script.advance_in workflow stream range at at_most) waiting waiting' new
-  advanced_in new shard answer waiting waiting' added found steps = λ p stands.
-      let text : List ℕ = plain.answer_text answer ++ line_feed in (
-        text,
-        subst (λ there. Tells scopes p (told_in there) (Some text) new) (found p stands) (asks_told scopes old new (advance workflow stream shard at at_most) answer text refl steps p stands),
-        added ∙ append_assoc waiting (plain.answer_text answer) line_feed,
-      )
+  -- what is answered in the shard is the answer
+  pub in_shard : (new : CoreState) (shard : ℕ) (waiting waiting' : List ℕ) → Found (Ok shard) → IsAnswered scopes old (script.event (advance workflow stream shard at at_most)) waiting waiting' new
+      → IsAnswered scopes old (script.advance_in workflow stream range at at_most) waiting waiting' new
+  in_shard new shard waiting waiting' found answers = λ p stands. subst (λ there. IsTold scopes p (told_in there) waiting waiting' new) (found p stands) (answers p stands)
 
   -- that there is none stands there
   pub nowhere_in : (refusal : Refusal) (waiting waiting' : List ℕ) → waiting' ≡ waiting ++ plain.answer_text (refused refusal) ++ line_feed → Found (Err refusal)

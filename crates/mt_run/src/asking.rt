@@ -1,58 +1,96 @@
 //! Commands of a script: each is asked of the site, and its answer added to what waits to be written.
-ghost use Rattle.std.specs.Prelude.{◌≡◌, ◌+◌, ◌≤◌, ◌++◌, List, length};
-ghost use Rattle.mt_event.specs.Events.{event_of};
-ghost use Rattle.mt_event.specs.Reasons.{done_by};
-ghost use Rattle.mt_plain.specs.Events as plain;
+ghost use Rattle.std.specs.Prelude.{◌≡◌, ◌+◌, ◌≤◌, ◌++◌, length};
+ghost use Rattle.mt_event.specs.Asks.{event_of_ask};
 ghost use Rattle.mt_plain.specs.Output.{answer_text, line_feed};
 ghost use Rattle.mt_plain.specs.Script as language;
 ghost use Rattle.mt_plain.specs.Script.{event};
-ghost use Rattle.mt_model.specs.declared.entries.Scope.{Scope};
 ghost use Rattle.mt_script.specs.Lines.{asked_from, row_from};
-ghost use Rattle.mt_site.specs.Advance.{advanced_from};
-ghost use Rattle.mt_site.specs.Commands.{event_of_command};
-ghost use Rattle.mt_site.specs.Show.{shown_answer};
+ghost use Rattle.mt_site.specs.Asks.{answer_of, shown_in};
+ghost use Rattle.mt_stands.specs.Base.{workflow_at};
+ghost use Rattle.mt_stands.specs.Workflows.{show_at};
 ghost use Rattle.mt_workflow.specs.Workflows.{stream_name};
+ghost use Rattle.mt_run.specs.Asks.{leaves_names};
 ghost use Rattle.mt_run.specs.Runs.{IsAnswered, IsNamed};
 
 use crate::cached::CachedSite;
 use arrayvec::ArrayVec;
-use mt_event::{Event, Reason, ShownOf};
+use mt_event::{Ask, Reason, Refusal, Told, Verb};
 use mt_names::{
     KeyRange, KeyspaceName, NameFault, RuleKey, RuleTarget, ShardList, TableName, TypeSet,
     WorkflowName, table_list,
 };
 use mt_script::{
     AdvanceWords, CreateWords, LONGEST_LINE, QualifiedName, RowAsked, WorkflowAsked, put_advanced,
-    put_answer, put_created, put_driven, put_reason, put_shown, put_written,
+    put_driven, put_reason, put_refused, put_row, put_shown, put_written,
 };
-use mt_site::{Command, drive};
-use mt_stream::Advanced;
+use mt_site::{Core, drive};
 use mt_watch::Asks;
 
-/// Tells that a command is done, or why it is refused.
-fn tell_done<const N: usize>(told: &Result<(), Reason>, waiting: &mut ArrayVec<u8, N>)
+/// Tells of a workflow.
+fn put_workflow<const N: usize>(core: &Core, workflow: &WorkflowName, waiting: &mut ArrayVec<u8, N>)
     requires room { length waiting.old.items + LONGEST_LINE ≤ N }
-    ensures { waiting.new.items ≡ waiting.old.items ++ answer_text (done_by told.now) ++ line_feed }
+    ensures { waiting.new.items ≡ waiting.old.items ++ answer_text (show_at (workflow_at core.now.base.workflows workflow.now)) ++ line_feed }
 {
-    match told {
-        Ok(()) => put_written(waiting),
-        Err(reason) => put_reason(waiting, *reason),
+    match core.shown(workflow) {
+        Some(shown) => put_shown(waiting, &shown),
+        None => put_reason(waiting, Reason::NoWorkflow),
     }
 }
 
-/// Asks for what a command does.
+/// Tells of the workflow that a Show asked for, which stands in the core.
+fn put_found<const N: usize>(core: &Core, ask: Ask<'_>, waiting: &mut ArrayVec<u8, N>)
+    requires room { length waiting.old.items + LONGEST_LINE ≤ N }
+    ensures { waiting.new.items ≡ waiting.old.items ++ answer_text (shown_in core.now ask.entry) ++ line_feed }
+{
+    match ask {
+        Ask::On(workflow, Verb::Show) => put_workflow(core, workflow, waiting),
+        _ => put_written(waiting),
+    }
+}
+
+/// Tells what was answered to what was asked for last.
+fn put_told<const N: usize>(
+    core: &Core,
+    ask: Ask<'_>,
+    told: &Result<Told, Refusal>,
+    waiting: &mut ArrayVec<u8, N>,
+)
+    requires room { length waiting.old.items + LONGEST_LINE ≤ N }
+    ensures { waiting.new.items ≡ waiting.old.items ++ answer_text (answer_of core.now ask.entry told.now) ++ line_feed }
+{
+    match told {
+        Ok(Told::Done) => put_written(waiting),
+        Ok(Told::Row(row)) => put_row(waiting, row),
+        Ok(Told::Advanced(did)) => put_advanced(waiting, *did),
+        Ok(Told::Shown) => put_found(core, ask, waiting),
+        Err(refusal) => put_refused(waiting, refusal),
+    }
+}
+
+/// Whether names lead where they led, whatever is answered.
+fn leaves_names(ask: Ask<'_>) -> bool
+    ensures { result ≡ leaves_names ask.entry }
+{
+    matches!(
+        ask,
+        Ask::Write(..) | Ask::Read(..) | Ask::On(_, Verb::Advance { .. } | Verb::Show)
+    )
+}
+
+/// Asks for what a line says, and tells what is answered.
 #[inline(never)]
-fn command<A: Asks, const N: usize>(
+fn ask<A: Asks, const N: usize>(
     cached: &mut CachedSite<A>,
-    asked: Command<'_>,
+    asked: Ask<'_>,
     waiting: &mut ArrayVec<u8, N>,
 )
     requires room { length waiting.old.items + LONGEST_LINE ≤ N }
     ensures watchers { cached.new.site.watchers ≡ cached.old.site.watchers }
-    ensures answered { IsAnswered (A.scopes cached.old.site.watchers) cached.old.site.core (event (event_of_command asked.entry)) waiting.old.items waiting.new.items cached.new.site.core }
+    ensures answered { IsAnswered (A.scopes cached.old.site.watchers) cached.old.site.core (event (event_of_ask asked.entry)) waiting.old.items waiting.new.items cached.new.site.core }
 {
-    cached.names.forget();
-    tell_done(&cached.site.command(asked), waiting);
+    cached.names.keep_if(leaves_names(asked));
+    let told = cached.site.core.apply(&cached.site.watchers, asked);
+    put_told(&cached.site.core, asked, &told, waiting);
 }
 
 /// Makes a keyspace with its shards.
@@ -68,7 +106,7 @@ pub fn add_keyspace<A: Asks, const N: usize>(
 {
     let keyspace = KeyspaceName::parse(name)?;
     let shards = ShardList::parse(shards)?;
-    command(cached, Command::AddKeyspace(&keyspace, &shards), waiting);
+    ask(cached, Ask::AddKeyspace(&keyspace, &shards), waiting);
     Ok(())
 }
 
@@ -85,7 +123,7 @@ pub fn add_table<A: Asks, const N: usize>(
 {
     let keyspace = KeyspaceName::parse(keyspace)?;
     let table = TableName::parse(name)?;
-    command(cached, Command::AddTable(&keyspace, &table), waiting);
+    ask(cached, Ask::AddTable(&keyspace, &table), waiting);
     Ok(())
 }
 
@@ -113,22 +151,8 @@ pub fn edit_rule<A: Asks, const N: usize>(
 {
     let key = RuleKey::parse(key)?;
     let target = rule_target(target)?;
-    command(cached, Command::EditRule(&key, target.as_ref()), waiting);
+    ask(cached, Ask::EditRule(&key, target.as_ref()), waiting);
     Ok(())
-}
-
-/// Asks for an event.
-fn ask<A: Asks, const N: usize>(
-    cached: &mut CachedSite<A>,
-    asked: &Event,
-    waiting: &mut ArrayVec<u8, N>,
-)
-    requires room { length waiting.old.items + LONGEST_LINE ≤ N }
-    ensures watchers { cached.new.site.watchers ≡ cached.old.site.watchers }
-    ensures answered { IsAnswered (A.scopes cached.old.site.watchers) cached.old.site.core (event (event_of asked.now)) waiting.old.items waiting.new.items cached.new.site.core }
-{
-    cached.names.forget();
-    put_answer(waiting, &cached.site.apply(asked));
 }
 
 /// Writes or reads a row of a table of a keyspace.
@@ -145,24 +169,8 @@ pub fn row_at<A: Asks, const N: usize>(
 {
     let (RuleTarget { keyspace, table }, type_of) = name.parse()?;
     match asked {
-        RowAsked::Write(text) => {
-            let op = text.op();
-            let write = Event::Write {
-                keyspace,
-                table,
-                op,
-            };
-            ask(cached, &write, waiting);
-        }
-        RowAsked::Read(key) => {
-            let read = Event::Read {
-                keyspace,
-                table,
-                key: *key,
-                type_of,
-            };
-            ask(cached, &read, waiting);
-        }
+        RowAsked::Write(text) => ask(cached, Ask::Write(&keyspace, &table, &text.op()), waiting),
+        RowAsked::Read(key) => ask(cached, Ask::Read(&keyspace, &table, *key, type_of), waiting),
     }
     Ok(())
 }
@@ -183,29 +191,20 @@ pub fn create<A: Asks, const N: usize>(
     let target = KeyspaceName::parse(words.target)?;
     match &table_list(words.tables) {
         Ok(tables) => {
-            cached.names.forget();
-            put_created(
-                waiting,
-                &cached.site.create(&workflow, &source, &target, tables),
-            );
+            let create = Ask::Create {
+                workflow: &workflow,
+                source: &source,
+                target: &target,
+                tables,
+            };
+            ask(cached, create, waiting);
             Ok(())
         }
         Err(fault) => Err(*fault),
     }
 }
 
-/// Tells what an advance did, or why it is refused.
-fn tell_advanced<const N: usize>(told: &Result<Advanced, Reason>, waiting: &mut ArrayVec<u8, N>)
-    requires room { length waiting.old.items + LONGEST_LINE ≤ N }
-    ensures { waiting.new.items ≡ waiting.old.items ++ answer_text (advanced_from told.now) ++ line_feed }
-{
-    match told {
-        Ok(did) => put_advanced(waiting, *did),
-        Err(reason) => put_reason(waiting, *reason),
-    }
-}
-
-/// Advances a stream of a workflow in the shard of a range, which leaves where names lead. It asks nobody.
+/// Advances a stream of a workflow in the shard of a range.
 fn advance<A: Asks, const N: usize>(
     cached: &mut CachedSite<A>,
     workflow: &WorkflowName,
@@ -215,7 +214,7 @@ fn advance<A: Asks, const N: usize>(
 )
     requires room { length waiting.old.items + LONGEST_LINE ≤ N }
     ensures watchers { cached.new.site.watchers ≡ cached.old.site.watchers }
-    ensures answered { (scopes : List Scope) → IsAnswered scopes cached.old.site.core (language.advance_in workflow.now (stream_name words.entry.stream) range.now words.entry.at words.entry.max) waiting.old.items waiting.new.items cached.new.site.core }
+    ensures answered { IsAnswered (A.scopes cached.old.site.watchers) cached.old.site.core (language.advance_in workflow.now (stream_name words.entry.stream) range.now words.entry.at words.entry.max) waiting.old.items waiting.new.items cached.new.site.core }
 {
     let AdvanceWords {
         stream,
@@ -223,36 +222,18 @@ fn advance<A: Asks, const N: usize>(
         max,
         ..
     } = words;
-    match cached.site.shard(workflow, range) {
+    match cached.site.core.shard(workflow, range) {
         Ok(shard) => {
-            let told = cached.site.advance(workflow, stream, shard, at, max);
-            tell_advanced(&told, waiting);
+            let advance = Verb::Advance {
+                stream,
+                shard,
+                at,
+                max,
+            };
+            ask(cached, Ask::On(workflow, advance), waiting);
         }
-        Err(refusal) => put_answer(waiting, &Err(refusal)),
+        Err(reason) => put_reason(waiting, reason),
     }
-}
-
-/// Tells what is told of a workflow, or why it is refused.
-fn tell_shown<const N: usize>(told: &Result<ShownOf<'_>, Reason>, waiting: &mut ArrayVec<u8, N>)
-    requires room { length waiting.old.items + LONGEST_LINE ≤ N }
-    ensures { waiting.new.items ≡ waiting.old.items ++ answer_text (shown_answer told.now) ++ line_feed }
-{
-    match told {
-        Ok(shown) => put_shown(waiting, shown),
-        Err(reason) => put_reason(waiting, *reason),
-    }
-}
-
-/// Tells of a workflow, which leaves all as it is. It asks nobody.
-fn show<A: Asks, const N: usize>(
-    cached: &CachedSite<A>,
-    workflow: &WorkflowName,
-    waiting: &mut ArrayVec<u8, N>,
-)
-    requires room { length waiting.old.items + LONGEST_LINE ≤ N }
-    ensures { (scopes : List Scope) → IsAnswered scopes cached.now.site.core (event (plain.show workflow.now)) waiting.old.items waiting.new.items cached.now.site.core }
-{
-    tell_shown(&cached.site.core().shown(workflow), waiting);
 }
 
 /// Switches the traffic of a workflow as a whole, or reverses it.
@@ -291,15 +272,15 @@ pub fn workflow<A: Asks, const N: usize>(
             advance(cached, workflow, &range, words, waiting);
         }
         WorkflowAsked::BeginSwitch(types) => {
-            let begin = Command::BeginSwitch(workflow, TypeSet::parse(types)?);
-            command(cached, begin, waiting);
+            let begin = Verb::BeginSwitch(TypeSet::parse(types)?);
+            ask(cached, Ask::On(workflow, begin), waiting);
         }
         WorkflowAsked::BeginReverse(types) => {
-            let begin = Command::BeginReverse(workflow, TypeSet::parse(types)?);
-            command(cached, begin, waiting);
+            let begin = Verb::BeginReverse(TypeSet::parse(types)?);
+            ask(cached, Ask::On(workflow, begin), waiting);
         }
-        WorkflowAsked::Step(at) => command(cached, Command::Step(workflow, at), waiting),
-        WorkflowAsked::Undo(at) => command(cached, Command::Undo(workflow, at), waiting),
+        WorkflowAsked::Step(at) => ask(cached, Ask::On(workflow, Verb::Step(at)), waiting),
+        WorkflowAsked::Undo(at) => ask(cached, Ask::On(workflow, Verb::Undo(at)), waiting),
         WorkflowAsked::Switch(types) => {
             let types = TypeSet::parse(types)?;
             drive_whole(cached, workflow, types, false, waiting);
@@ -308,9 +289,9 @@ pub fn workflow<A: Asks, const N: usize>(
             let types = TypeSet::parse(types)?;
             drive_whole(cached, workflow, types, true, waiting);
         }
-        WorkflowAsked::Cancel => command(cached, Command::Cancel(workflow), waiting),
-        WorkflowAsked::Complete => command(cached, Command::Complete(workflow), waiting),
-        WorkflowAsked::Show => show(cached, workflow, waiting),
+        WorkflowAsked::Cancel => ask(cached, Ask::On(workflow, Verb::Cancel), waiting),
+        WorkflowAsked::Complete => ask(cached, Ask::On(workflow, Verb::Complete), waiting),
+        WorkflowAsked::Show => ask(cached, Ask::On(workflow, Verb::Show), waiting),
     }
     Ok(())
 }

@@ -52,7 +52,7 @@ impl<W: Asks> CachedSite<W> {
             return;
         }
         if let Ok(target) = self.site.resolve(&name, TabletType::Primary) {
-            let place = self.site.core().place_of(target);
+            let place = self.site.core.place_of(target);
             self.names.keep(name.table, place);
         }
     }
@@ -72,7 +72,7 @@ impl<W: Asks> CachedSite<W> {
     {
         a_base_tells_what_its_state_serves();
         match self.names.find(name) {
-            Some(place) => Some(Ok(self.site.write_row(place, op))),
+            Some(place) => Some(Ok(self.site.core.write_row(place, op))),
             None => self.write_found(name, op),
         }
     }
@@ -108,7 +108,7 @@ impl<W: Asks> CachedSite<W> {
     {
         a_base_tells_what_its_state_serves();
         match self.names.find(name) {
-            Some(place) => Some(Ok(self.site.core().read_row(place, key, TabletType::Primary))),
+            Some(place) => Some(Ok(self.site.core.read_row(place, key, TabletType::Primary))),
             None => self.read_found(name, key),
         }
     }
@@ -131,7 +131,7 @@ impl<W: Asks> CachedSite<W> {
     }
 
     /// Writes a row of the table that a name leads to for the primary: a look-up, as `Site::resolve` answers it, and then
-    /// `Site::write_row` there. `T2 NoTable` or `T3 Ambiguous` if the name leads nowhere; that leaves the site as it was. What is kept stays.
+    /// `Core::write_row` there. `T2 NoTable` or `T3 Ambiguous` if the name leads nowhere; that leaves the site as it was. What is kept stays.
     pub fn write_through(
         &mut self,
         name: &RuleKey,
@@ -141,8 +141,8 @@ impl<W: Asks> CachedSite<W> {
         ensures told { WrittenThrough self.old.site.core name.now op result self.new.site.core }
     {
         let target = self.site.resolve(name, TabletType::Primary)?;
-        let place = self.site.core().place_of(target);
-        Ok(self.site.write_row(&place, op))
+        let place = self.site.core.place_of(target);
+        Ok(self.site.core.write_row(&place, op))
     }
 
     /// Reads a row, or none, of the table that a name leads to for a type: a look-up, as `Site::resolve` answers it, and then
@@ -156,7 +156,7 @@ impl<W: Asks> CachedSite<W> {
         ensures { ReadThrough self.now.site.core name.now key tablet_type result }
     {
         let target = self.site.resolve(name, tablet_type)?;
-        let core = self.site.core();
+        let core = &self.site.core;
         let place = core.place_of(target);
         Ok(core.read_row(&place, key, tablet_type))
     }

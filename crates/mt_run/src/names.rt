@@ -1,5 +1,5 @@
 //! Where names lead for the primary, of those that rows were asked for by.
-ghost use Rattle.std.specs.Prelude.{◌≡◌, [], Ok, IfSome};
+ghost use Rattle.std.specs.Prelude.{if◌then◌else◌, ◌≡◌, [], Ok, IfSome};
 ghost use Rattle.mt_model.specs.Topology.{TopologyState, resolution};
 ghost use Rattle.mt_names.specs.declared.types.TabletType.TheVariants.{Primary};
 ghost use Rattle.mt_run.specs.Names.{LeadThere, LeadsTo, plain_key};
@@ -40,6 +40,15 @@ impl Names {
     {
         self.kept.clear();
         self.rows = 0;
+    }
+
+    /// Forgets all unless each leads where it led.
+    pub fn keep_if(&mut self, lead: bool)
+        ensures { self.new.kept.entries ≡ (if lead then self.old.kept.entries else []) }
+    {
+        if !lead {
+            self.forget();
+        }
     }
 
     /// Where a name of these bytes leads for the primary, if it is kept. It takes no memory.

@@ -28,6 +28,6 @@ pub use qualified::QualifiedName;
 pub use reading::{MAX_READS, MAX_SCRIPT_LENGTH, read_script};
 pub use shown::LineText;
 pub use texts::{
-    put_advanced, put_answer, put_created, put_driven, put_fault, put_look_up, put_reason,
-    put_refusal, put_row, put_shown, put_written,
+    put_advanced, put_answer, put_driven, put_fault, put_look_up, put_reason, put_refusal,
+    put_refused, put_row, put_shown, put_written,
 };

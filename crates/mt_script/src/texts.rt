@@ -7,7 +7,7 @@ ghost use Rattle.mt_plain.specs.Events.{advanced, done, refused};
 ghost use Rattle.mt_plain.specs.Output.{answer_text, driven_text, ended_text, line_feed, refused_text, spaced};
 ghost use Rattle.mt_event.specs.Drives.{ended_from};
 ghost use Rattle.mt_event.specs.declared.reply.Reply.TheVariants as reply;
-ghost use Rattle.mt_event.specs.Events.{answer_from, done_from, lent_shown, refusal_from};
+ghost use Rattle.mt_event.specs.Events.{answer_from, lent_shown, refusal_from};
 ghost use Rattle.mt_event.specs.Reasons.{reason_from};
 ghost use Rattle.mt_model.specs.Faults.{topology_fault_text};
 ghost use Rattle.mt_names.specs.Faults.{fault_text};
@@ -77,19 +77,16 @@ pub fn put_answer<const N: usize>(text: &mut ArrayVec<u8, N>, answer: &Result<Re
         Ok(Reply::Row(row)) => put_row(text, row),
         Ok(Reply::Advanced(advanced)) => put_advanced(text, *advanced),
         Ok(Reply::Shown(shown)) => put_shown(text, &shown.lent()),
-        Err(refusal) => put_line(text, b"refused ", refusal.as_str().as_bytes()),
+        Err(refusal) => put_refused(text, refusal),
     }
 }
 
-/// Adds the line that tells that a workflow is created, or why it isn't.
-pub fn put_created<const N: usize>(text: &mut ArrayVec<u8, N>, told: &Result<(), Refusal>)
+/// Adds the line that tells why what was asked for is refused.
+pub fn put_refused<const N: usize>(text: &mut ArrayVec<u8, N>, refusal: &Refusal)
     requires room { length text.old.items + LONGEST_LINE ≤ N }
-    ensures { text.new.items ≡ text.old.items ++ answer_text (done_from told.now) ++ line_feed }
+    ensures { text.new.items ≡ text.old.items ++ answer_text (refused (refusal_from refusal.now)) ++ line_feed }
 {
-    match told {
-        Ok(()) => put_line(text, b"ok", b""),
-        Err(refusal) => put_line(text, b"refused ", refusal.as_str().as_bytes()),
-    }
+    put_line(text, b"refused ", refusal.as_str().as_bytes());
 }
 
 /// Adds the line that tells of a refusal behind the journal, and how many steps are done.

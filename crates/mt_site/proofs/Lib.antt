@@ -1,4 +1,5 @@
 pub mod AdvanceLemmas
+pub mod AppliedLemmas
 pub mod CoreLemmas
 pub mod DriveLemmas
 pub mod GivenUpLemmas

@@ -1,11 +1,11 @@
 -- What is owed to all workflows is what is owed to all live ones: they are those, one for one.
 use Rattle.std.proofs.Common.{◌≡◌, ◌≢◌, ℕ, ◌+◌, Bool, true, false, cond, List, [], ◌∷◌, find, map, max, Option, None, Some, refl, sym, ap, ◌∙◌, subst, AllPairs}
 use Rattle.std.proofs.lemmas.List.Sums.{sum_by-cons}
-use Rattle.std.specs.List.{All, AllByRecursion}
+use Rattle.std.specs.List.{AllByRecursion}
 use Rattle.std.specs.Map.{keys_of}
 use Rattle.std.specs.Option.{option_map_or}
 use Rattle.std.specs.Prelude.{if◌then◌else◌, sum_by}
-use Rattle.mt_names.proofs.EntryLemmas.{apart, lookup_from_absent, same_itself, same_turned}
+use Rattle.mt_names.proofs.EntryLemmas.{lookup_from_absent, same_itself, same_turned}
 use Rattle.mt_names.proofs.SameLemmas.{same_text_decides}
 use Rattle.mt_names.specs.Names.{same_text}
 use Rattle.mt_plain.specs.Events.{Way}

@@ -73,6 +73,9 @@ module _ (t : TopologyState) (ws : Workflows) (ps : Primaries) (k table : List �
       by false = refl
 
 -- a write leaves the topology
-pub row_leaves_topology : (old new : BaseState) (keyspace table : List ℕ) (op : Op) (answer : Answer) (o : Option ShardsState) → WritesAt o old keyspace table op answer new → new.topology ≡ old.topology
-row_leaves_topology old new keyspace table op answer None is = let topology_of : BaseState → TopologyState = λ core. core.topology in ap topology_of is.1
-row_leaves_topology old new keyspace table op answer (Some shards) (result, after, writes, told, made) = let topology_of : BaseState → TopologyState = λ core. core.topology in ap topology_of made
+pub row_leaves_topology : (old new : BaseState) (keyspace table : List ℕ) (op : Op) (answer : Answer) → WritesRow old keyspace table op answer new → new.topology ≡ old.topology
+row_leaves_topology old new keyspace table op answer = by (shards_at old.primaries keyspace)
+  where
+    by : (o : Option ShardsState) → WritesAt o old keyspace table op answer new → new.topology ≡ old.topology
+    by None is = let topology_of : BaseState → TopologyState = λ core. core.topology in ap topology_of is.1
+    by (Some shards) (result, after, writes, told, made) = let topology_of : BaseState → TopologyState = λ core. core.topology in ap topology_of made

@@ -1,9 +1,12 @@
 -- A turn that is taken, and a drive that is on its way.
 use Rattle.std.proofs.Common.{◌≡◌, ℕ, suc, Bool, true, false, List, Option, None, Some, Result, Ok, Err, refl, sym, ap, subst, ◌∙◌}
 use Rattle.std.specs.Option.{option_map_or}
-use Rattle.std.specs.Prelude.{if◌then◌else◌, option_and_then, option_map}
+use Rattle.std.specs.Prelude.{if◌then◌else◌, nat_lt, option_and_then, option_map}
 use Rattle.mt_event.specs.declared.reason.Reason.{Reason}
 use Rattle.mt_event.specs.declared.refusal.Refusal.{Refusal}
+use Rattle.mt_event.specs.declared.reply.Told.{Told}
+use Rattle.mt_event.specs.declared.reply.Told.TheVariants as what
+use Rattle.mt_event.specs.Asks.{answer_told_by}
 use Rattle.mt_event.specs.Events.{refusal_from}
 use Rattle.mt_event.specs.Reasons.{reason_from}
 use Rattle.mt_laws.specs.Turns.{Fits, FitsHeard}
@@ -11,8 +14,9 @@ use Rattle.mt_model.specs.declared.entries.Scope.{Scope}
 use Rattle.mt_names.specs.declared.types.TypeSet.{TypeSet}
 use Rattle.mt_names.specs.Shards.{shard_count}
 use Rattle.mt_plain.specs.Answers.{Answers}
-use Rattle.mt_plain.specs.Drive.{Drives, Driving, GoesOn, Heard, abandoned, begins, ends, event_of, feeding_stream, feeds, gives_up, goes_on, heard, lanes_of, most_at_once, most_turns, position_of, unless_closed, way_of}
-use Rattle.mt_plain.specs.Events.{Answer, Event, Slot, StreamName, Way, advance}
+use Rattle.mt_plain.specs.Drive.{Drives, Driving, GoesOn, Heard, abandoned, begins, ends, event_of, feeding_stream, feeds, gives_up, goes_on, heard, lanes_of, most_at_once, most_tries, most_turns, position_of, steps, unless_closed, way_of}
+use Rattle.mt_plain.specs.Drive.{done as plain_done}
+use Rattle.mt_plain.specs.Events.{Answer, Event, Slot, StreamName, Way, advance, done}
 use Rattle.mt_plain.specs.Next.{next}
 use Rattle.mt_plain.specs.Plain.{Lane, Live, Plain, lane_at, live_at}
 use Rattle.mt_plain.specs.Slots.{slot_of as plain_slot}
@@ -40,6 +44,26 @@ turn_taken scopes old new driving said event answer does due follows = λ p stan
     let done : Answers p (event_of p driving) answer × CoreStands (next p (event_of p driving) answer) scopes new
     = subst (λ e. Answers p e answer × CoreStands (next p e answer) scopes new) (due p stands) (does p stands) in
     (answer, done.0, done.1, follows (next p (event_of p driving) answer) done.1)
+
+-- what follows where it is taken, whatever is told
+pub heard_begin : (q : Plain) (workflow : List ℕ) (types : TypeSet) (back : Bool) (told : Told) → heard q (begins workflow types back) (answer_told_by done (Ok told)) ≡ goes_on (steps workflow most_tries)
+heard_begin q workflow types back what.Done = refl
+heard_begin q workflow types back (what.Row row) = refl
+heard_begin q workflow types back (what.Advanced counts) = refl
+heard_begin q workflow types back what.Shown = refl
+
+pub heard_step : (q : Plain) (workflow : List ℕ) (tries : ℕ) (told : Told) → heard q (steps workflow tries) (answer_told_by done (Ok told)) ≡ unless_closed (way_of q workflow) plain_done (steps workflow most_tries)
+heard_step q workflow tries what.Done = refl
+heard_step q workflow tries (what.Row row) = refl
+heard_step q workflow tries (what.Advanced counts) = refl
+heard_step q workflow tries what.Shown = refl
+
+pub heard_feed : (q : Plain) (workflow : List ℕ) (shard tries : ℕ) (told : Told) → heard q (feeds workflow shard tries) (answer_told_by done (Ok told))
+    ≡ (if nat_lt (suc shard) (lanes_of q workflow) then goes_on (feeds workflow (suc shard) tries) else goes_on (steps workflow tries))
+heard_feed q workflow shard tries what.Done = refl
+heard_feed q workflow shard tries (what.Row row) = refl
+heard_feed q workflow shard tries (what.Advanced counts) = refl
+heard_feed q workflow shard tries what.Shown = refl
 
 -- the advance that is due
 pub advance_due : (p : Plain) (workflow : List ℕ) (shard tries : ℕ) (name : StreamName) (at : ℕ) → name ≡ feeding_stream p workflow

@@ -1,12 +1,12 @@
 pub mod Advance
+pub mod Applied
 pub mod Applies
+pub mod Asks
 pub mod ByHand
-pub mod Commands
 pub mod Drives
 pub mod GivenUp
 pub mod Headline
 pub mod Owed
 pub mod Runs
 pub mod Shards
-pub mod Show
 pub mod Stood

@@ -1,8 +1,8 @@
 -- How a shard of a workflow's target is found by its range (this profile's own).
 use Rattle.std.specs.Prelude.{ℕ, position, Option, None, Some, Result, Ok, Err}
 use Rattle.mt_names.specs.Shards.{KeyRange, same_range}
-use Rattle.mt_event.specs.declared.refusal.Refusal.{Refusal}
-use Rattle.mt_event.specs.Events.{refusal_from}
+use Rattle.mt_event.specs.declared.reason.Reason.{Reason}
+use Rattle.mt_event.specs.Reasons.{reason_from}
 use Rattle.mt_plain.specs.Events as plain
 use Rattle.mt_workflow.specs.Workflows.{WorkflowState}
 
@@ -17,6 +17,6 @@ shard_in None range = Err plain.no_workflow
 shard_in (Some w) range = shard_or_none (position (λ lane. same_range range lane.range) w.lanes)
 
 -- the same as the code tells it
-abbrev pub shard_from : Result ℕ Refusal → Result ℕ plain.Refusal
+abbrev pub shard_from : Result ℕ Reason → Result ℕ plain.Refusal
 shard_from (Ok shard) = Ok shard
-shard_from (Err refusal) = Err (refusal_from refusal)
+shard_from (Err reason) = Err (reason_from reason)

@@ -1,44 +1,41 @@
 //! The core of the controller: the topology, a primary for each shard of its keyspaces, the live workflows, and what is kept of ways.
-ghost use Rattle.std.specs.Prelude.{◌≡◌, false, IfErr, IfOk, List, [], ◌∷◌, OnErr, option_copied, slice_get, string_bytes};
-ghost use Rattle.mt_event.specs.Events.{answer_from, event_of};
+ghost use Rattle.std.specs.Prelude.{◌≡◌, IfErr, IfOk, List, option_copied, option_map, slice_get, string_bytes};
+ghost use Rattle.mt_event.specs.Asks.{event_of_ask};
+ghost use Rattle.mt_event.specs.Events.{answer_from, lent_shown};
 ghost use Rattle.mt_model.specs.declared.entries.Scope.{Scope};
 ghost use Rattle.mt_model.specs.Documents.{dump_text, rules_text};
 ghost use Rattle.mt_model.specs.Topology.{resolution};
-ghost use Rattle.mt_plain.specs.Events as plain;
 ghost use Rattle.mt_plain.specs.Plain.{Plain, live_at, opening};
 ghost use Rattle.mt_plain.specs.Refuse.{owed, shard_of_range};
 ghost use Rattle.mt_plain.specs.Serve.{served};
 ghost use Rattle.mt_primary.specs.Primaries.{shards_of};
 ghost use Rattle.mt_stands.specs.Base.{workflow_at};
 ghost use Rattle.mt_stands.specs.Purges.{IsPurged, with_purges};
-ghost use Rattle.mt_stands.specs.Ways.{CoreStands, CoreSteps, empty_core};
-ghost use Rattle.mt_site.specs.Applies.{AppliesAndPurges};
-ghost use Rattle.mt_site.specs.Commands.{is_command};
-ghost use Rattle.mt_site.specs.GivenUp.{CanBeGivenUp};
-ghost use Rattle.mt_site.specs.Headline.{KeepsTheHeadline};
+ghost use Rattle.mt_stands.specs.Ways.{CoreStands, empty_core};
+ghost use Rattle.mt_stands.specs.Workflows.{shown_by};
+ghost use Rattle.mt_site.specs.Applied.{Applied};
+ghost use Rattle.mt_site.specs.Asks.{answer_of, shown_in};
 ghost use Rattle.mt_site.specs.Owed.{owed_to};
 ghost use Rattle.mt_site.specs.Shards.{shard_from, shard_in};
-ghost use Rattle.mt_site.specs.Stood.{IsCoreWith};
 
-mod commands;
 mod placed;
-mod workflows;
+mod taking;
 
 use crate::owed::a_base_owes_what_its_state_owes;
-use crate::replies::{advanced, created, done, row, show};
-use crate::{OpenWays, Primaries, Workflows, owed, shards};
-pub use commands::Command;
+use crate::replies::{done, refused_by, row};
+use crate::rows::NOWHERE;
+use crate::{OpenWays, Primaries, Workflows, owed, shards, show};
 use indexmap::IndexMap;
-use mt_event::{Event, Refusal, Reply};
+use mt_event::{Ask, Reason, Refusal, Reply, ShownOf, Told, Verb};
 use mt_journal::Journal;
-use mt_laws::every_run_keeps_the_headline;
 use mt_model::TopologyFault;
 use mt_moves::purge;
 use mt_names::{KeyRange, KeyspaceName, RuleKey, RuleTarget, TabletType, WorkflowName};
 use mt_primary::Primary;
 use mt_refinement::{
     a_base_tells_what_its_state_serves, a_core_stays_one, a_purged_base_stands,
-    a_purged_core_stands,
+    a_purged_core_stands, streams_of_a_base_lie_in_their_logs,
+    workflows_of_a_base_know_their_shards,
 };
 use mt_rules::RulesFault;
 use mt_topology::Topology;
@@ -123,7 +120,7 @@ impl Core {
     }
 
     /// The shard of a live workflow's target whose range is written so, by its place: `F7 NoWorkflow`, `F32 NoShard`. It takes no memory.
-    pub fn shard(&self, workflow: &WorkflowName, range: &KeyRange) -> Result<u8, Refusal>
+    pub fn shard(&self, workflow: &WorkflowName, range: &KeyRange) -> Result<u8, Reason>
         ensures place { shard_from result ≡ shard_in (workflow_at self.now.base.workflows workflow.now) range.now }
         ensures stands { (p : Plain) (scopes : List Scope) → CoreStands p scopes self.now → shard_from result ≡ shard_of_range (live_at p workflow.now) range.now }
     {
@@ -186,70 +183,65 @@ impl Core {
         purge(&self.workflows, &mut self.primaries);
     }
 
-    /// Applies an event, which is done whole or refused; what is refused leaves the core as it was. The answer is one that the
+    /// What is told of a live workflow, if there is one of that name. It takes no memory, and asks nobody. (Vitess: Show of MoveTables)
+    pub fn shown(&self, workflow: &WorkflowName) -> Option<ShownOf<'_>>
+        ensures { option_map lent_shown result ≡ option_map shown_by (workflow_at self.now.base.workflows workflow.now) }
+    {
+        a_core_stays_one();
+        workflows_of_a_base_know_their_shards();
+        streams_of_a_base_lie_in_their_logs();
+        show::show(&self.workflows, workflow)
+    }
+
+    /// Applies what is asked for, which is done whole or refused; what is refused leaves the core as it was. The answer is one that the
     /// definitions allow in each state that the core stands for, and the core then stands for the next one. Of the events Read,
     /// Undo, Cancel, Complete and Show take no memory. Create asks the watchers of its target's primary, and of the steps a refresh
     /// those of the primary that it is about; no other event asks anybody. Behind an event that is taken each log is purged below what the
     /// streams that read it, frozen ones apart, have still to read; behind a write as a segment gets whole. (Vitess: MoveTables)
     ///
-    /// `headline` is the promise of the whole: whatever client calls, stream steps, rule edits and workflow commands were applied
-    /// before, in whatever order, Cancel gives back the workflow's part of the topology from before Create, ReverseTraffic that
-    /// from before SwitchTraffic, an abandoned switch that from its start; no moved table is ever writable in two keyspaces, and
-    /// each primary read answers from the acknowledged writes, each once. `steps` and `headline` speak of each state that the core
-    /// stands for with these watchers. There is one if there was one before: from `new` on, if each call hands in watchers of the same scopes.
-    pub fn apply<W: Asks>(&mut self, watchers: &W, event: &Event) -> Result<Reply, Refusal>
-        ensures applies { AppliesAndPurges (W.scopes watchers.now) (W.may_answer watchers.now) self.old (event_of event.now) (answer_from result) self.new }
-        ensures steps { CoreSteps (W.scopes watchers.now) self.old (event_of event.now) (answer_from result) self.new }
-        ensures unchanged { OnErr result (self.new ≡ self.old) }
-        ensures given_up { CanBeGivenUp self.old (event_of event.now) → answer_from result ≡ plain.done }
-        ensures headline { KeepsTheHeadline (W.scopes watchers.now) self.old (event_of event.now ∷ []) (answer_from result ∷ []) self.new }
-        ensures stood { IsCoreWith (W.scopes watchers.now) self.old → IsCoreWith (W.scopes watchers.now) self.new }
-        ensures purged { IsPurged self.old.base → IsPurged self.new.base }
+    /// `Applied` is all that is promised of it. Its `headline` is the promise of the whole: whatever client calls, stream steps, rule edits
+    /// and workflow commands were applied before, in whatever order, Cancel gives back the workflow's part of the topology from before
+    /// Create, ReverseTraffic that from before SwitchTraffic, an abandoned switch that from its start; no moved table is ever writable in
+    /// two keyspaces, and each primary read answers from the acknowledged writes, each once. `steps` and `headline` speak of each state that
+    /// the core stands for with these watchers. There is one if there was one before: from `new` on, if each call hands in watchers of the
+    /// same scopes.
+    pub fn apply<W: Asks>(&mut self, watchers: &W, ask: Ask<'_>) -> Result<Told, Refusal>
+        ensures { Applied (W.scopes watchers.now) (W.may_answer watchers.now) self.old (event_of_ask ask.entry) (answer_of self.new ask.entry result) self.new }
     {
-        let told = match Command::of(event) {
-            Some(command) => done(self.command(watchers, command)),
-            None => self.apply_other(watchers, event),
-        };
-        every_run_keeps_the_headline();
-        told
+        match ask {
+            Ask::Write(keyspace, table, op) => {
+                refused_by(done(self.write(NOWHERE, keyspace, table, op.copied())))
+            }
+            Ask::Read(keyspace, table, key, type_of) => {
+                refused_by(row(self.read(NOWHERE, keyspace, table, key, type_of)))
+            }
+            Ask::On(workflow, verb) => refused_by(self.apply_on(watchers, workflow, verb)),
+            _ => self.apply_by_hand(watchers, ask),
+        }
     }
 
-    /// Applies an event that is no command: a Create, a write, a read, an advance or a Show.
-    fn apply_other<W: Asks>(&mut self, watchers: &W, event: &Event) -> Result<Reply, Refusal>
-        requires { is_command event.now ≡ false }
-        ensures applies { AppliesAndPurges (W.scopes watchers.now) (W.may_answer watchers.now) self.old (event_of event.now) (answer_from result) self.new }
-        ensures steps { CoreSteps (W.scopes watchers.now) self.old (event_of event.now) (answer_from result) self.new }
-        ensures unchanged { OnErr result (self.new ≡ self.old) }
-        ensures given_up { CanBeGivenUp self.old (event_of event.now) → answer_from result ≡ plain.done }
-        ensures purged { IsPurged self.old.base → IsPurged self.new.base }
+    /// The reply to what was asked for last, by what `apply` told of it. It takes no memory.
+    pub fn reply(&self, ask: Ask<'_>, told: Result<Told, Refusal>) -> Result<Reply, Refusal>
+        ensures { answer_from result ≡ answer_of self.now ask.entry told }
     {
-        match event {
-            Event::Create {
-                workflow,
-                source,
-                target,
-                tables,
-            } => created(self.create(watchers, workflow, source, target, tables)),
-            Event::Write {
-                keyspace,
-                table,
-                op,
-            } => done(self.write_row(&self.place_at(keyspace, table), op.copied())),
-            Event::Read {
-                keyspace,
-                table,
-                key,
-                type_of,
-            } => row(self.read_row(&self.place_at(keyspace, table), *key, *type_of)),
-            Event::Advance {
-                workflow,
-                stream,
-                shard,
-                at,
-                max,
-            } => advanced(self.advance(workflow, *stream, *shard, *at, *max)),
-            Event::Show { workflow } => show(self.shown(workflow)),
-            _ => unreachable!(),
+        match told? {
+            Told::Done => Ok(Reply::Done),
+            Told::Row(row) => Ok(Reply::Row(row)),
+            Told::Advanced(counts) => Ok(Reply::Advanced(counts)),
+            Told::Shown => self.shown_reply(ask),
+        }
+    }
+
+    /// The reply to what tells of a workflow.
+    fn shown_reply(&self, ask: Ask<'_>) -> Result<Reply, Refusal>
+        ensures { answer_from result ≡ shown_in self.now ask.entry }
+    {
+        match ask {
+            Ask::On(workflow, Verb::Show) => match self.shown(workflow) {
+                Some(shown) => Ok(Reply::Shown(shown.owned())),
+                None => Err(Refusal::Other(Reason::NoWorkflow)),
+            },
+            _ => Ok(Reply::Done),
         }
     }
 }

@@ -1,16 +1,17 @@
 //! Whole switches and reversals of traffic.
-ghost use Rattle.std.specs.Prelude.{◌≡◌, OnErr};
+ghost use Rattle.std.specs.Prelude.{◌≡◌, ℕ, true, List, OnErr};
 ghost use Rattle.mt_plain.specs.Drive.{begins};
 ghost use Rattle.mt_plain.specs.Drive as plain;
 ghost use Rattle.mt_plain.specs.Plain.{Plain};
-ghost use Rattle.mt_site.specs.Commands.{event_of_command};
+ghost use Rattle.mt_event.specs.Asks.{event_on};
 ghost use Rattle.mt_stands.specs.Purges.{IsPurged};
+ghost use Rattle.mt_site.specs.Asks.{may_change};
 ghost use Rattle.mt_site.specs.Drives.{DriveKeepsTheHeadline, DrivesFrom};
 ghost use Rattle.mt_site.specs.Stood.{IsCoreWith};
 
+use crate::Site;
 use crate::turn::{Heard, MOST_TRIES, Turn, take};
-use crate::{Command, Site};
-use mt_event::{Driven, Reason, Refusal};
+use mt_event::{Driven, Reason, Refusal, Verb};
 use mt_laws::{a_drive_fits_in_the_turns_that_are_left, every_run_keeps_the_headline};
 use mt_names::{TypeSet, WorkflowName};
 use mt_watch::Asks;
@@ -18,14 +19,15 @@ use mt_watch::Asks;
 /// More events than any drive asks for.
 const MOST_TURNS: usize = 1400;
 
-/// The command that begins a switch of traffic, or its reversal.
-fn begin_of(workflow: &WorkflowName, types: TypeSet, back: bool) -> Command<'_>
-    ensures { (p : Plain) → event_of_command result ≡ plain.event_of p (begins workflow.now types back) }
+/// What begins a switch of traffic, or its reversal.
+fn begin_of(types: TypeSet, back: bool) -> Verb
+    ensures asks { (p : Plain) (workflow : List ℕ) → event_on workflow result ≡ plain.event_of p (begins workflow types back) }
+    ensures changes { may_change result ≡ true }
 {
     if back {
-        Command::BeginReverse(workflow, types)
+        Verb::BeginReverse(types)
     } else {
-        Command::BeginSwitch(workflow, types)
+        Verb::BeginSwitch(types)
     }
 }
 
@@ -49,7 +51,8 @@ pub fn drive<W: Asks>(
 {
     every_run_keeps_the_headline();
     a_drive_fits_in_the_turns_that_are_left();
-    site.command(begin_of(workflow, types, back))?;
+    site.core
+        .apply_on(&site.watchers, workflow, begin_of(types, back))?;
     let mut turn = Turn::Steps(MOST_TRIES);
     for _ in 1..MOST_TURNS {
         match take(&mut site.core, &site.watchers, workflow, turn) {

@@ -17,10 +17,12 @@ mod show;
 mod site;
 mod turn;
 
-pub use controller::{Command, Core, Place};
+pub use controller::{Core, Place};
 pub use driving::drive;
 pub use given_up::a_move_can_be_given_up;
-pub use mt_event::{Driven, Event, Reason, Refusal, Reply, Shown, ShownLane, ShownStream};
+pub use mt_event::{
+    Ask, Driven, Event, Reason, Refusal, Reply, Shown, ShownLane, ShownOf, ShownStream, Told, Verb,
+};
 pub use mt_model::{Op, TopologyFault};
 pub use mt_names::{
     KeyRange, KeyspaceName, NameFault, Position, RuleKey, RuleTarget, ShardList, TableName,

@@ -1,53 +1,49 @@
-//! What is answered to a call whose names are lent, as the reply to its event.
-ghost use Rattle.std.specs.Prelude.{◌≡◌, is_ok};
-ghost use Rattle.mt_event.specs.Events.{answer_from, done_from};
+//! What is told of what is taken, by what each call tells.
+ghost use Rattle.std.specs.Prelude.{◌≡◌};
+ghost use Rattle.mt_event.specs.Asks.{answer_told, answer_told_by};
+ghost use Rattle.mt_event.specs.Events.{done_from};
 ghost use Rattle.mt_event.specs.Reasons.{done_by};
+ghost use Rattle.mt_plain.specs.Events.{Answer};
 ghost use Rattle.mt_site.specs.Advance.{advanced_from};
 ghost use Rattle.mt_site.specs.ByHand.{read_from};
-ghost use Rattle.mt_site.specs.Show.{shown_answer};
 
-use mt_event::{Reason, Refusal, Reply, ShownOf};
+use mt_event::{Reason, Refusal, Told};
 use mt_names::Value;
 use mt_stream::Advanced;
 
-/// The reply to a command, or to a write.
-pub(crate) fn done(told: Result<(), Reason>) -> Result<Reply, Refusal>
-    ensures answer { answer_from result ≡ done_by told }
-    ensures ok { is_ok result ≡ is_ok told }
+/// That it is done, or why it isn't.
+pub(crate) fn done(told: Result<(), Reason>) -> Result<Told, Reason>
+    ensures { (shown : Answer) → answer_told_by shown result ≡ done_by told }
 {
     told?;
-    Ok(Reply::Done)
+    Ok(Told::Done)
 }
 
-/// The reply to a Create.
-pub(crate) fn created(told: Result<(), Refusal>) -> Result<Reply, Refusal>
-    ensures answer { answer_from result ≡ done_from told }
-    ensures ok { is_ok result ≡ is_ok told }
+/// What an advance did.
+pub(crate) fn advanced(told: Result<Advanced, Reason>) -> Result<Told, Reason>
+    ensures { (shown : Answer) → answer_told_by shown result ≡ advanced_from told }
 {
-    told?;
-    Ok(Reply::Done)
+    Ok(Told::Advanced(told?))
 }
 
-/// The reply to a read.
-pub(crate) fn row(told: Result<Option<Value>, Reason>) -> Result<Reply, Refusal>
-    ensures answer { answer_from result ≡ read_from told }
-    ensures ok { is_ok result ≡ is_ok told }
+/// The row that was read.
+pub(crate) fn row(told: Result<Option<Value>, Reason>) -> Result<Told, Reason>
+    ensures { (shown : Answer) → answer_told_by shown result ≡ read_from told }
 {
-    Ok(Reply::Row(told?))
+    Ok(Told::Row(told?))
 }
 
-/// The reply to an advance.
-pub(crate) fn advanced(told: Result<Advanced, Reason>) -> Result<Reply, Refusal>
-    ensures answer { answer_from result ≡ advanced_from told }
-    ensures ok { is_ok result ≡ is_ok told }
+/// That it is done, or why it isn't, where no name is told.
+pub(crate) fn refused(told: Result<(), Reason>) -> Result<(), Refusal>
+    ensures { done_from result ≡ done_by told }
 {
-    Ok(Reply::Advanced(told?))
+    Ok(told?)
 }
 
-/// The reply to a Show.
-pub(crate) fn show(told: Result<ShownOf<'_>, Reason>) -> Result<Reply, Refusal>
-    ensures answer { answer_from result ≡ shown_answer told.entry }
-    ensures ok { is_ok result ≡ is_ok told.entry }
+/// What is told, where no name is.
+#[inline(always)]
+pub(crate) fn refused_by(told: Result<Told, Reason>) -> Result<Told, Refusal>
+    ensures { (shown : Answer) → answer_told shown result ≡ answer_told_by shown told }
 {
-    Ok(Reply::Shown(told?.owned()))
+    Ok(told?)
 }

@@ -5,7 +5,7 @@ ghost use Rattle.mt_stands.specs.Base.{workflow_at};
 ghost use Rattle.mt_site.specs.Shards.{shard_from, shard_in, shard_or_none};
 
 use crate::Workflows;
-use mt_event::{Reason, Refusal};
+use mt_event::Reason;
 use mt_names::{KeyRange, WorkflowName};
 use mt_workflow::Workflow;
 
@@ -22,11 +22,11 @@ fn place_in(workflow: &Workflow, range: &KeyRange) -> Option<u8>
 }
 
 /// What is told of it.
-fn told(place: Option<u8>) -> Result<u8, Refusal>
+fn told(place: Option<u8>) -> Result<u8, Reason>
     ensures { shard_from result ≡ shard_or_none place }
 {
     match place {
-        None => Err(Refusal::Other(Reason::NoShard)),
+        None => Err(Reason::NoShard),
         Some(shard) => Ok(shard),
     }
 }
@@ -36,11 +36,11 @@ pub(crate) fn place_of(
     workflows: &Workflows,
     name: &WorkflowName,
     range: &KeyRange,
-) -> Result<u8, Refusal>
+) -> Result<u8, Reason>
     ensures { shard_from result ≡ shard_in (workflow_at workflows.now.entries name.now) range.now }
 {
     match workflows.get(name) {
-        None => Err(Refusal::Other(Reason::NoWorkflow)),
+        None => Err(Reason::NoWorkflow),
         Some(workflow) => told(place_in(workflow, range)),
     }
 }

@@ -4,12 +4,11 @@ ghost use Rattle.mt_event.specs.Events.{lane_from, lanes_from, lent_shown, shown
 ghost use Rattle.mt_plain.specs.Events.{forward};
 ghost use Rattle.mt_workflow.specs.Workflows.{WorkflowState, slot_of};
 ghost use Rattle.mt_stands.specs.Base.{workflow_at};
-ghost use Rattle.mt_stands.specs.Workflows.{lane_by, show_at, shown_by, slot_from};
-ghost use Rattle.mt_site.specs.Show.{shown_answer};
+ghost use Rattle.mt_stands.specs.Workflows.{lane_by, shown_by, slot_from};
 
 use crate::Workflows;
 use arrayvec::ArrayVec;
-use mt_event::{Reason, ShownLane, ShownOf, ShownStream, Tables};
+use mt_event::{ShownLane, ShownOf, ShownStream, Tables};
 use mt_names::{MAX_SHARDS, WorkflowName};
 use mt_stream::Stream;
 use mt_workflow::{Slot, Workflow};
@@ -79,14 +78,11 @@ fn shown(workflow: &Workflow) -> ShownOf<'_>
     }
 }
 
-/// Tells of a live workflow: `F7 NoWorkflow`. It takes no memory.
-pub(crate) fn show<'a>(workflows: &'a Workflows, name: &WorkflowName) -> Result<ShownOf<'a>, Reason>
+/// What is told of a live workflow, if there is one of that name. It takes no memory.
+pub(crate) fn show<'a>(workflows: &'a Workflows, name: &WorkflowName) -> Option<ShownOf<'a>>
     requires { (w : WorkflowState) → workflow_at workflows.now.entries name.now ≡ Some w
         → (shard : ℕ) → shard < length w.lanes → is_some (slot_of w shard forward) ≡ true }
-    ensures { shown_answer result ≡ show_at (workflow_at workflows.now.entries name.now) }
+    ensures { option_map lent_shown result ≡ option_map shown_by (workflow_at workflows.now.entries name.now) }
 {
-    match workflows.get(name) {
-        None => Err(Reason::NoWorkflow),
-        Some(workflow) => Ok(shown(workflow)),
-    }
+    workflows.get(name).map(shown)
 }

@@ -11,8 +11,8 @@ ghost use Rattle.mt_workflow.specs.Workflows.{slot_of, stream_name, way_from};
 ghost use Rattle.mt_site.specs.Drives.{Turns, end_from, heard_from, turn_from};
 ghost use Rattle.mt_site.specs.Stood.{StaysCore};
 
-use crate::{Command, Core};
-use mt_event::{Driven, Reason, Refusal};
+use crate::Core;
+use mt_event::{Driven, Reason, Refusal, Verb};
 use mt_names::{Position, WorkflowName};
 use mt_watch::Asks;
 use mt_workflow::{Slot, Way, Workflow};
@@ -156,10 +156,10 @@ fn step<W: Asks>(core: &mut Core, watchers: &W, workflow: &WorkflowName, tries: 
     ensures stays { StaysCore (W.scopes watchers.now) core.old core.new }
 {
     let at = steps_done(way_of(core, workflow));
-    let answer = core.command(watchers, Command::Step(workflow, at));
+    let answer = core.apply_on(watchers, workflow, Verb::Step(at));
     let way = way_of(core, workflow);
     match answer {
-        Ok(()) => unless_closed(way, End::Done, Turn::Steps(MOST_TRIES)),
+        Ok(_) => unless_closed(way, End::Done, Turn::Steps(MOST_TRIES)),
         Err(refusal) => refused_step(way, tries, refusal),
     }
 }
@@ -187,13 +187,25 @@ fn fed(shards: u8, shard: u8, tries: u8) -> Turn
 }
 
 /// Advances the feeding stream of a shard, before the step is tried again.
-fn feed(core: &mut Core, workflow: &WorkflowName, shard: u8, tries: u8) -> Heard
-    ensures turns { (scopes : List Scope) → Turns scopes core.old (plain.feeds workflow.now shard tries) (heard_from workflow.now result) core.new }
-    ensures stays { (scopes : List Scope) → StaysCore scopes core.old core.new }
+fn feed<W: Asks>(
+    core: &mut Core,
+    watchers: &W,
+    workflow: &WorkflowName,
+    shard: u8,
+    tries: u8,
+) -> Heard
+    ensures turns { Turns (W.scopes watchers.now) core.old (plain.feeds workflow.now shard tries) (heard_from workflow.now result) core.new }
+    ensures stays { StaysCore (W.scopes watchers.now) core.old core.new }
 {
     let stream = feeding(way_of(core, workflow));
     let at = position_of(core, workflow, stream, shard);
-    match core.advance(workflow, stream, shard, at, MOST_AT_ONCE) {
+    let advance = Verb::Advance {
+        stream,
+        shard,
+        at,
+        max: MOST_AT_ONCE,
+    };
+    match core.apply_on(watchers, workflow, advance) {
         Ok(_) => Heard::GoesOn(fed(shards_of(core, workflow), shard, tries)),
         Err(refusal) => fail(way_of(core, workflow), refusal),
     }
@@ -210,7 +222,7 @@ fn give_up<W: Asks>(
     ensures stays { StaysCore (W.scopes watchers.now) core.old core.new }
 {
     let at = steps_done(way_of(core, workflow));
-    let _ = core.command(watchers, Command::Undo(workflow, at));
+    let _ = core.apply_on(watchers, workflow, Verb::Undo(at));
     unless_closed(
         way_of(core, workflow),
         End::Abandoned(refusal),
@@ -230,7 +242,7 @@ pub(crate) fn take<W: Asks>(
 {
     match turn {
         Turn::Steps(tries) => step(core, watchers, workflow, tries),
-        Turn::Feeds(shard, tries) => feed(core, workflow, shard, tries),
+        Turn::Feeds(shard, tries) => feed(core, watchers, workflow, shard, tries),
         Turn::GivesUp(refusal) => give_up(core, watchers, workflow, refusal),
     }
 }

@@ -1,11 +1,12 @@
 //! Answers, as they are kept.
 ghost use Rattle.std.specs.Prelude.{◌≡◌, ◌↔◌, false, true, IfOk, IsOk};
-ghost use Rattle.mt_event.specs.CompactAnswers.{IsApart, answer_from, may_stand_apart, read_answer, write_answer};
+ghost use Rattle.std.specs.Option.{option_map_or};
+ghost use Rattle.mt_event.specs.CompactAnswers.{IsApart, answer_from, may_stand_apart, said_by};
 
 use crate::compact::names::are_same;
-use crate::{Reason, Refusal, Reply, events_and_answers_are_told_apart};
+use crate::{Reason, Refusal, Reply, Told, events_and_answers_are_told_apart};
 use mt_model::SharedValue;
-use mt_names::{Value, copied_value};
+use mt_names::copied_value;
 use mt_stream::Advanced;
 use std::alloc::{AllocError, Global};
 use std::marker::Model;
@@ -38,7 +39,7 @@ fn are_same_answers(answer: &Answer, other: &Answer) -> bool
 
 /// What is answered.
 #[derive(Drop)]
-enum Told {
+enum Kept {
     Done,
     NoRow,
     Row(SharedValue),
@@ -51,7 +52,7 @@ enum Told {
 /// own, which all who keep the answer share.
 #[derive(Drop)]
 pub struct CompactAnswer {
-    told: Told,
+    kept: Kept,
 }
 
 impl Model for CompactAnswer {
@@ -62,21 +63,9 @@ impl Model for CompactAnswer {
 
     ghost Value = { Result Reply Refusal };
 
-    ghost view = { λ kept. answer_from kept.told };
+    ghost view = { λ answer. answer_from answer.kept };
 
-    ghost invariant = { λ kept. IsApart kept.told };
-}
-
-/// What is answered to a read, from what the core tells. It is refused only when out of memory.
-fn read_told(alloc: Global, told: &Result<Option<Value>, Reason>) -> Result<Told, AllocError>
-    ensures same { IfOk result (λ kept. answer_from kept ≡ read_answer told.now) }
-    ensures apart { IfOk result IsApart }
-{
-    match told {
-        Ok(Some(value)) => Ok(Told::Row(SharedValue::new(alloc, copied_value(value))?)),
-        Ok(None) => Ok(Told::NoRow),
-        Err(reason) => Ok(Told::Refused(*reason)),
-    }
+    ghost invariant = { λ answer. IsApart answer.kept };
 }
 
 impl CompactAnswer {
@@ -86,25 +75,34 @@ impl CompactAnswer {
         ensures same { IfOk result (λ kept. kept ≡ answer.now) }
         ensures in_place { may_stand_apart answer.now ≡ false → IsOk result }
     {
-        let told = match answer {
-            Ok(Reply::Done) => Told::Done,
-            Ok(Reply::Row(None)) => Told::NoRow,
-            Ok(Reply::Row(Some(value))) => Told::Row(SharedValue::new(alloc, copied_value(value))?),
-            Ok(Reply::Advanced(advanced)) => Told::Advanced(*advanced),
-            Err(Refusal::Other(reason)) => Told::Refused(*reason),
+        let kept = match answer {
+            Ok(Reply::Done) => Kept::Done,
+            Ok(Reply::Row(None)) => Kept::NoRow,
+            Ok(Reply::Row(Some(value))) => Kept::Row(SharedValue::new(alloc, copied_value(value))?),
+            Ok(Reply::Advanced(advanced)) => Kept::Advanced(*advanced),
+            Err(Refusal::Other(reason)) => Kept::Refused(*reason),
             Ok(Reply::Shown(_)) | Err(Refusal::RuleConflict(_)) | Err(Refusal::TargetHasTable(_)) =>
-                { Told::Other(Arc::new(alloc, copied_answer(answer))?) }
+                { Kept::Other(Arc::new(alloc, copied_answer(answer))?) }
         };
-        Ok(CompactAnswer { told })
+        Ok(CompactAnswer { kept })
     }
 
-    /// The answer to a read, to be kept, from what the core tells. It is refused only when out of memory; a row of at most 22 bytes takes none.
-    pub fn of_read(alloc: Global, told: &Result<Option<Value>, Reason>) -> Result<Self, AllocError>
-        ensures { IfOk result (λ kept. kept ≡ read_answer told.now) }
+    /// The answer that the core told, to be kept, or none of a workflow that is there: what is told of it stands in the core. It is refused only
+    /// when out of memory; one that is no row and no refusal that tells a name takes none.
+    pub fn of_told(alloc: Global, told: &Result<Told, Refusal>) -> Result<Option<Self>, AllocError>
+        ensures same { IfOk result (λ kept. kept ≡ said_by told.now) }
+        ensures in_place { option_map_or may_stand_apart (said_by told.now) false ≡ false → IsOk result }
     {
-        Ok(CompactAnswer {
-            told: read_told(alloc, told)?,
-        })
+        let kept = match told {
+            Ok(Told::Done) => Kept::Done,
+            Ok(Told::Row(None)) => Kept::NoRow,
+            Ok(Told::Row(Some(value))) => Kept::Row(SharedValue::new(alloc, copied_value(value))?),
+            Ok(Told::Advanced(advanced)) => Kept::Advanced(*advanced),
+            Ok(Told::Shown) => return Ok(None),
+            Err(Refusal::Other(reason)) => Kept::Refused(*reason),
+            Err(refusal) => Kept::Other(Arc::new(alloc, Err(refusal.copied()))?),
+        };
+        Ok(Some(CompactAnswer { kept }))
     }
 
     /// The answer, for one more who keeps it. It takes no memory, and is refused only where those who share can't be counted any further; one that
@@ -113,35 +111,24 @@ impl CompactAnswer {
         ensures same { IfOk result (λ kept. kept ≡ self.now) }
         ensures in_place { may_stand_apart self.now ≡ false → IsOk result }
     {
-        let told = match &self.told {
-            Told::Done => Told::Done,
-            Told::NoRow => Told::NoRow,
-            Told::Row(value) => Told::Row(value.try_clone()?),
-            Told::Advanced(advanced) => Told::Advanced(*advanced),
-            Told::Refused(reason) => Told::Refused(*reason),
-            Told::Other(answer) => Told::Other(Arc::try_clone(answer)?),
+        let kept = match &self.kept {
+            Kept::Done => Kept::Done,
+            Kept::NoRow => Kept::NoRow,
+            Kept::Row(value) => Kept::Row(value.try_clone()?),
+            Kept::Advanced(advanced) => Kept::Advanced(*advanced),
+            Kept::Refused(reason) => Kept::Refused(*reason),
+            Kept::Other(answer) => Kept::Other(Arc::try_clone(answer)?),
         };
-        Ok(CompactAnswer { told })
-    }
-
-    /// The answer to a write, to be kept, from what the core tells. It takes no memory.
-    pub fn of_write(told: Result<(), Reason>) -> Self
-        ensures { result ≡ write_answer told }
-    {
-        let told = match told {
-            Ok(()) => Told::Done,
-            Err(reason) => Told::Refused(reason),
-        };
-        CompactAnswer { told }
+        Ok(CompactAnswer { kept })
     }
 
     /// Whether another one is the same answer. It takes no memory; of two that stand in place for rows neither is copied whole.
     pub fn is_same(&self, other: &Self) -> bool
         ensures { (result ≡ true) ↔ (self.now ≡ other.now) }
     {
-        match (&self.told, &other.told) {
-            (Told::Done, Told::Done) | (Told::NoRow, Told::NoRow) => true,
-            (Told::Row(value), Told::Row(its_value)) => are_same(value, its_value),
+        match (&self.kept, &other.kept) {
+            (Kept::Done, Kept::Done) | (Kept::NoRow, Kept::NoRow) => true,
+            (Kept::Row(value), Kept::Row(its_value)) => are_same(value, its_value),
             _ => are_same_copied(self, other),
         }
     }
@@ -150,13 +137,13 @@ impl CompactAnswer {
     pub fn copied(&self) -> Answer
         ensures { result ≡ self.now }
     {
-        match &self.told {
-            Told::Done => Ok(Reply::Done),
-            Told::NoRow => Ok(Reply::Row(None)),
-            Told::Row(value) => Ok(Reply::Row(Some(value.value()))),
-            Told::Advanced(advanced) => Ok(Reply::Advanced(*advanced)),
-            Told::Refused(reason) => Err(Refusal::Other(*reason)),
-            Told::Other(answer) => copied_apart(answer),
+        match &self.kept {
+            Kept::Done => Ok(Reply::Done),
+            Kept::NoRow => Ok(Reply::Row(None)),
+            Kept::Row(value) => Ok(Reply::Row(Some(value.value()))),
+            Kept::Advanced(advanced) => Ok(Reply::Advanced(*advanced)),
+            Kept::Refused(reason) => Err(Refusal::Other(*reason)),
+            Kept::Other(answer) => copied_apart(answer),
         }
     }
 }

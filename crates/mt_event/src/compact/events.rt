@@ -1,34 +1,15 @@
 //! Events, as they are kept.
-ghost use Rattle.std.specs.Prelude.{◌≡◌, ◌↔◌, Some, false, true, IfOk, IfSome, IsOk, IsSome};
-ghost use Rattle.mt_event.specs.declared.compact.events.Asked.TheVariants.{OnWorkflow};
-ghost use Rattle.mt_event.specs.CompactEvents.{IsApart, event_from, is_in_place, on_workflow};
+ghost use Rattle.std.specs.Prelude.{◌≡◌, ◌↔◌, false, true, IfOk, IsOk};
+ghost use Rattle.mt_event.specs.Asks.{asks_a_workflow, is_on_a_workflow, owned};
+ghost use Rattle.mt_event.specs.CompactEvents.{IsApart, event_from};
 
 use crate::compact::names::{CompactKeyspace, CompactTable};
 use crate::compact::ops::CompactOp;
-use crate::{Event, events_and_answers_are_told_apart};
-use mt_names::{Position, TabletType, TypeSet, WorkflowName};
-use mt_workflow::Slot;
+use crate::{Ask, Event, Verb, events_and_answers_are_told_apart};
+use mt_names::{TabletType, WorkflowName};
 use std::alloc::{AllocError, Global};
 use std::marker::Model;
 use std::sync::Arc;
-
-/// What is asked of a workflow that is there.
-#[derive(Clone, Copy)]
-enum Asks {
-    Advance {
-        stream: Slot,
-        shard: u8,
-        max: u16,
-        at: Position,
-    },
-    BeginSwitch(TypeSet),
-    BeginReverse(TypeSet),
-    Step(u64),
-    Undo(u64),
-    Cancel,
-    Complete,
-    Show,
-}
 
 /// What is asked.
 #[derive(Drop)]
@@ -44,7 +25,7 @@ enum Asked {
         keyspace: CompactKeyspace,
         table: CompactTable,
     },
-    OnWorkflow(WorkflowName, Asks),
+    OnWorkflow(WorkflowName, Verb),
     Other(Arc<Event>),
 }
 
@@ -67,132 +48,36 @@ impl Model for CompactEvent {
     ghost invariant = { λ kept. IsApart kept.asked };
 }
 
-/// What is asked of a workflow, in place.
-fn on(workflow: &WorkflowName, asks: Asks) -> Option<Asked>
-    ensures { result ≡ Some (OnWorkflow workflow.now asks) }
-{
-    Some(Asked::OnWorkflow(workflow.copied(), asks))
-}
-
-/// What an event asks of a workflow that is there, if it does. It takes no memory.
-fn in_place(event: &Event) -> Option<Asked>
-    ensures same { IfSome result (λ asked. event_from asked ≡ event.now) }
-    ensures apart { IfSome result IsApart }
-    ensures found { is_in_place event.now ≡ true → IsSome result }
-{
-    match event {
-        Event::Advance {
-            workflow,
-            stream,
-            shard,
-            at,
-            max,
-        } => on(
-            workflow,
-            Asks::Advance {
-                stream: *stream,
-                shard: *shard,
-                max: *max,
-                at: *at,
-            },
-        ),
-        Event::BeginSwitch { workflow, types } => on(workflow, Asks::BeginSwitch(*types)),
-        Event::BeginReverse { workflow, types } => on(workflow, Asks::BeginReverse(*types)),
-        Event::Step { workflow, at } => on(workflow, Asks::Step(*at)),
-        Event::Undo { workflow, at } => on(workflow, Asks::Undo(*at)),
-        Event::Cancel { workflow } => on(workflow, Asks::Cancel),
-        Event::Complete { workflow } => on(workflow, Asks::Complete),
-        Event::Show { workflow } => on(workflow, Asks::Show),
-        _ => None,
-    }
-}
-
-/// What any event asks. It is refused only when out of memory.
-fn kept(alloc: Global, event: &Event) -> Result<Asked, AllocError>
-    requires { is_in_place event.now ≡ false }
-    ensures same { IfOk result (λ asked. event_from asked ≡ event.now) }
-    ensures apart { IfOk result IsApart }
-{
-    match event {
-        Event::Write {
-            keyspace,
-            table,
-            op,
-        } => Ok(Asked::Write {
-            keyspace: CompactKeyspace::new(alloc, keyspace)?,
-            table: CompactTable::new(alloc, table)?,
-            op: CompactOp::new(alloc, op)?,
-        }),
-        Event::Read {
-            keyspace,
-            table,
-            key,
-            type_of,
-        } => Ok(Asked::Read {
-            type_of: *type_of,
-            key: *key,
-            keyspace: CompactKeyspace::new(alloc, keyspace)?,
-            table: CompactTable::new(alloc, table)?,
-        }),
-        _ => kept_apart(alloc, event),
-    }
-}
-
-/// An event in memory of its own. It is refused only when out of memory.
+/// What is asked for seldom, as its event in memory of its own. It is refused only when out of memory.
 #[inline(never)]
-fn kept_apart(alloc: Global, event: &Event) -> Result<Asked, AllocError>
-    requires { is_in_place event.now ≡ false }
-    ensures same { IfOk result (λ asked. event_from asked ≡ event.now) }
+fn kept_apart(alloc: Global, ask: Ask<'_>) -> Result<Asked, AllocError>
+    requires { asks_a_workflow ask ≡ false }
+    ensures same { IfOk result (λ asked. event_from asked ≡ owned ask.entry) }
     ensures apart { IfOk result IsApart }
 {
-    Ok(Asked::Other(Arc::new(alloc, event.copied())?))
-}
-
-impl Asks {
-    /// The event that asks so of a workflow. It takes no memory.
-    fn of(&self, workflow: &WorkflowName) -> Event
-        ensures { result ≡ on_workflow workflow.now self.now }
-    {
-        let workflow = workflow.copied();
-        match self {
-            Asks::Advance {
-                stream,
-                shard,
-                max,
-                at,
-            } => Event::Advance {
-                workflow,
-                stream: *stream,
-                shard: *shard,
-                at: *at,
-                max: *max,
-            },
-            Asks::BeginSwitch(types) => Event::BeginSwitch {
-                workflow,
-                types: *types,
-            },
-            Asks::BeginReverse(types) => Event::BeginReverse {
-                workflow,
-                types: *types,
-            },
-            Asks::Step(at) => Event::Step { workflow, at: *at },
-            Asks::Undo(at) => Event::Undo { workflow, at: *at },
-            Asks::Cancel => Event::Cancel { workflow },
-            Asks::Complete => Event::Complete { workflow },
-            Asks::Show => Event::Show { workflow },
-        }
-    }
+    Ok(Asked::Other(Arc::new(alloc, ask.event())?))
 }
 
 impl CompactEvent {
-    /// An event, to be kept. It is refused only when out of memory; what is asked of a workflow that is there takes none.
-    pub fn new(alloc: Global, event: &Event) -> Result<Self, AllocError>
-        ensures same { IfOk result (λ kept. kept ≡ event.now) }
-        ensures in_place { is_in_place event.now ≡ true → IsOk result }
+    /// What is asked for, to be kept as its event. It is refused only when out of memory; what is asked of a workflow that is there takes none.
+    pub fn new(alloc: Global, ask: Ask<'_>) -> Result<Self, AllocError>
+        ensures same { IfOk result (λ kept. kept ≡ owned ask.entry) }
+        ensures in_place { asks_a_workflow ask.entry ≡ true → IsOk result }
     {
-        let asked = match in_place(event) {
-            Some(asked) => asked,
-            None => kept(alloc, event)?,
+        let asked = match ask {
+            Ask::Write(keyspace, table, op) => Asked::Write {
+                keyspace: CompactKeyspace::new(alloc, keyspace)?,
+                table: CompactTable::new(alloc, table)?,
+                op: CompactOp::new(alloc, op)?,
+            },
+            Ask::Read(keyspace, table, key, type_of) => Asked::Read {
+                type_of,
+                key,
+                keyspace: CompactKeyspace::new(alloc, keyspace)?,
+                table: CompactTable::new(alloc, table)?,
+            },
+            Ask::On(workflow, verb) => Asked::OnWorkflow(workflow.copied(), verb),
+            _ => kept_apart(alloc, ask)?,
         };
         Ok(CompactEvent { asked })
     }
@@ -201,7 +86,7 @@ impl CompactEvent {
     /// of a workflow that is there is never refused.
     pub fn again(&self) -> Result<Self, AllocError>
         ensures same { IfOk result (λ kept. kept ≡ self.now) }
-        ensures in_place { is_in_place self.now ≡ true → IsOk result }
+        ensures in_place { is_on_a_workflow self.now ≡ true → IsOk result }
     {
         let asked = match &self.asked {
             Asked::Write {
@@ -224,7 +109,7 @@ impl CompactEvent {
                 keyspace: keyspace.again()?,
                 table: table.again()?,
             },
-            Asked::OnWorkflow(workflow, asks) => Asked::OnWorkflow(workflow.copied(), *asks),
+            Asked::OnWorkflow(workflow, verb) => Asked::OnWorkflow(workflow.copied(), *verb),
             Asked::Other(event) => Asked::Other(Arc::try_clone(event)?),
         };
         Ok(CompactEvent { asked })
@@ -297,7 +182,7 @@ impl CompactEvent {
                 key: *key,
                 type_of: *type_of,
             },
-            Asked::OnWorkflow(workflow, asks) => asks.of(workflow),
+            Asked::OnWorkflow(workflow, verb) => verb.of(workflow.copied()),
             Asked::Other(event) => event.copied(),
         }
     }

@@ -33,5 +33,5 @@ returns-clause-named g c =
       event (plain.add_keyspace keyspace c.in_ok-shards.shards),
       then_ok (λ k. read_shards c.args.shards.now >>= λ cuts. Ok (event (plain.add_keyspace k cuts))) (read_keyspace c.args.name.now) keyspace _ c.in_ok-keyspace.ensures.value
           (then_ok (λ cuts. Ok (event (plain.add_keyspace keyspace cuts))) (read_shards c.args.shards.now) c.in_ok-shards.shards _ c.in_ok-shards.ensures.value refl),
-      c.command.ensures.answered,
+      c.ask.ensures.answered,
     )

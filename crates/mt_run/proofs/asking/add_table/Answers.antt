@@ -32,5 +32,5 @@ returns-clause-named g c =
       event (plain.add_table keyspace c.in_ok-table.table),
       then_ok (λ k. read_table c.args.name.now >>= λ t. Ok (event (plain.add_table k t))) (read_keyspace c.args.keyspace.now) keyspace _ c.in_ok-keyspace.ensures.value
           (then_ok (λ t. Ok (event (plain.add_table keyspace t))) (read_table c.args.name.now) c.in_ok-table.table _ c.in_ok-table.ensures.value refl),
-      c.command.ensures.answered,
+      c.ask.ensures.answered,
     )

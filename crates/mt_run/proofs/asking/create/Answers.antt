@@ -1,11 +1,9 @@
 -- The names are read, or the first that isn't is in fault.
 use Rattle.std.proofs.Common.{◌≡◌, refl}
 use Rattle.std.proofs.lemmas.Result.{err_from_is_err_and}
-use Rattle.mt_event.specs.Events.{done_from}
 use Rattle.mt_plain.specs.Events as plain
 use Rattle.mt_plain.specs.Script.{event}
 use Rattle.mt_run.proofs.AskLemmas.{create_read, create_source_refused, create_tables_refused, create_target_refused, create_workflow_refused, tables_read, tables_refused}
-use Rattle.mt_run.proofs.RunLemmas.{answered}
 use Rattle.mt_run.proofs.asking.create.Goals as goal
 
 pub returns-in_err-workflow-clause-named : goal.returns-in_err-workflow-clause-named
@@ -41,13 +39,11 @@ returns-in_err-target-clause-named g c =
 pub returns-in-Ok-clause-named : goal.returns-in-Ok-clause-named
 returns-in-Ok-clause-named g c =
     let words = c.args.words in
-    let scopes = g.A.Asks.scopes c.args.cached.now.site.watchers in
     let made = plain.create c.in_ok-workflow.workflow c.in_ok-source.source c.in_ok-target.target c.in-Ok.tables.items in (
       event made,
       create_read words.workflow.now words.source.now words.target.now words.tables.now c.in_ok-workflow.workflow c.in_ok-workflow.ensures.value c.in_ok-source.source c.in_ok-source.ensures.value c.in_ok-target.target
           c.in_ok-target.ensures.value c.in-Ok.tables.items (tables_read c.table_list.result words.tables.now c.table_list.ensures.value c.in-Ok.tables c.in-Ok.is),
-      answered scopes c.args.cached.now.site.core c.create.new.self.core made (done_from c.create.result) c.args.waiting.now.items c.put_created.new.text.items c.put_created.ensures
-          c.create.ensures.steps,
+      c.ask.ensures.answered,
     )
 
 pub returns-in-Err-clause-named : goal.returns-in-Err-clause-named

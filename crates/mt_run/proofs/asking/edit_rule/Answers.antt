@@ -35,5 +35,5 @@ returns-clause-named g c =
       event (plain.edit_rule key target),
       then_ok (λ k. read_rule_target c.args.target.now >>= λ t. Ok (event (plain.edit_rule k t))) (read_key c.args.key.now) key _ c.in_ok-key.ensures.value
           (then_ok (λ t. Ok (event (plain.edit_rule key t))) (read_rule_target c.args.target.now) target _ c.in_ok-target.ensures refl),
-      subst (λ t. IsAnswered scopes c.args.cached.now.site.core (event (plain.edit_rule key t)) c.args.waiting.now.items c.command.new.waiting.items c.command.new.cached.site.core) c.as_ref.ensures.value c.command.ensures.answered,
+      subst (λ t. IsAnswered scopes c.args.cached.now.site.core (event (plain.edit_rule key t)) c.args.waiting.now.items c.ask.new.waiting.items c.ask.new.cached.site.core) c.as_ref.ensures.value c.ask.ensures.answered,
     )

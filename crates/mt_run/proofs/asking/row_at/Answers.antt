@@ -20,11 +20,11 @@ pub returns-in-Write-clause-named : goal.returns-in-Write-clause-named
 returns-in-Write-clause-named g c =
     let there = c.in_ok-keyspace.field-0-0 in
     let text = c.in-Write.text in
-    let request = event (plain.write there.keyspace there.table c.op-op.result) in (
+    let request = event (plain.write there.keyspace there.table c.op.result) in (
       request,
       subst (λ a. request_of (row_from change_at get_at c.args.name.now a) ≡ Ok request) (sym c.in-Write.is)
           (row_asked c.args.name.now (row.Write text) (read_key c.args.name.now) (there, c.in_ok-keyspace.type_of) refl c.in_ok-keyspace.ensures
-          ∙ ap (λ (op : Op). Ok (event (plain.write there.keyspace there.table op))) (sym c.op-op.ensures)),
+          ∙ ap (λ (op : Op). Ok (event (plain.write there.keyspace there.table op))) (sym c.op.ensures)),
       c.ask.ensures.answered,
     )
 

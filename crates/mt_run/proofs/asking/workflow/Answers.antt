@@ -14,31 +14,31 @@ returns-in_ok-range-in-Advance-clause-named g c =
     let words = c.in-Advance.words in
     let make : KeyRange → Request = λ r. advance_in w (stream_name words.stream) r words.at words.max in
     let range = c.in_ok-range-in-Advance.range in
-    (make range, workflow_read c.args.name.now c.args.asked (asked.Advance words) w (make range) c.in-Advance.is c.in_ok-workflow.ensures.value (range_read make words.range.now range c.in_ok-range-in-Advance.ensures.value), c.advance.ensures.answered (g.A.Asks.scopes c.args.cached.now.site.watchers))
+    (make range, workflow_read c.args.name.now c.args.asked (asked.Advance words) w (make range) c.in-Advance.is c.in_ok-workflow.ensures.value (range_read make words.range.now range c.in_ok-range-in-Advance.ensures.value), c.advance.ensures.answered)
 
 pub returns-in_ok-parse-in-BeginSwitch-clause-named : goal.returns-in_ok-parse-in-BeginSwitch-clause-named
 returns-in_ok-parse-in-BeginSwitch-clause-named g c =
     let w = c.in_ok-workflow.field-0 in
     let request = event (plain.begin_switch w c.in_ok-parse-in-BeginSwitch.field-0) in
-    (request, workflow_read c.args.name.now c.args.asked (asked.BeginSwitch c.in-BeginSwitch.types) w request c.in-BeginSwitch.is c.in_ok-workflow.ensures.value (types_read (λ t. event (plain.begin_switch w t)) c.in-BeginSwitch.types.now c.in_ok-parse-in-BeginSwitch.field-0 c.in_ok-parse-in-BeginSwitch.ensures.value), c.command.ensures.answered)
+    (request, workflow_read c.args.name.now c.args.asked (asked.BeginSwitch c.in-BeginSwitch.types) w request c.in-BeginSwitch.is c.in_ok-workflow.ensures.value (types_read (λ t. event (plain.begin_switch w t)) c.in-BeginSwitch.types.now c.in_ok-parse-in-BeginSwitch.field-0 c.in_ok-parse-in-BeginSwitch.ensures.value), c.ask.ensures.answered)
 
 pub returns-in_ok-parse-in-BeginReverse-clause-named : goal.returns-in_ok-parse-in-BeginReverse-clause-named
 returns-in_ok-parse-in-BeginReverse-clause-named g c =
     let w = c.in_ok-workflow.field-0 in
     let request = event (plain.begin_reverse w c.in_ok-parse-in-BeginReverse.field-0) in
-    (request, workflow_read c.args.name.now c.args.asked (asked.BeginReverse c.in-BeginReverse.types) w request c.in-BeginReverse.is c.in_ok-workflow.ensures.value (types_read (λ t. event (plain.begin_reverse w t)) c.in-BeginReverse.types.now c.in_ok-parse-in-BeginReverse.field-0 c.in_ok-parse-in-BeginReverse.ensures.value), c.command-in-BeginReverse.ensures.answered)
+    (request, workflow_read c.args.name.now c.args.asked (asked.BeginReverse c.in-BeginReverse.types) w request c.in-BeginReverse.is c.in_ok-workflow.ensures.value (types_read (λ t. event (plain.begin_reverse w t)) c.in-BeginReverse.types.now c.in_ok-parse-in-BeginReverse.field-0 c.in_ok-parse-in-BeginReverse.ensures.value), c.ask-in-BeginReverse.ensures.answered)
 
 pub returns-in-Step-clause-named : goal.returns-in-Step-clause-named
 returns-in-Step-clause-named g c =
     let w = c.in_ok-workflow.field-0 in
     let request = event (plain.step w c.in-Step.at) in
-    (request, workflow_read c.args.name.now c.args.asked (asked.Step c.in-Step.at) w request c.in-Step.is c.in_ok-workflow.ensures.value refl, c.command-in-Step.ensures.answered)
+    (request, workflow_read c.args.name.now c.args.asked (asked.Step c.in-Step.at) w request c.in-Step.is c.in_ok-workflow.ensures.value refl, c.ask-in-Step.ensures.answered)
 
 pub returns-in-Undo-clause-named : goal.returns-in-Undo-clause-named
 returns-in-Undo-clause-named g c =
     let w = c.in_ok-workflow.field-0 in
     let request = event (plain.undo w c.in-Undo.at) in
-    (request, workflow_read c.args.name.now c.args.asked (asked.Undo c.in-Undo.at) w request c.in-Undo.is c.in_ok-workflow.ensures.value refl, c.command-in-Undo.ensures.answered)
+    (request, workflow_read c.args.name.now c.args.asked (asked.Undo c.in-Undo.at) w request c.in-Undo.is c.in_ok-workflow.ensures.value refl, c.ask-in-Undo.ensures.answered)
 
 pub returns-in_ok-types-in-Switch-clause-named : goal.returns-in_ok-types-in-Switch-clause-named
 returns-in_ok-types-in-Switch-clause-named g c =
@@ -56,16 +56,16 @@ pub returns-in-Cancel-clause-named : goal.returns-in-Cancel-clause-named
 returns-in-Cancel-clause-named g c =
     let w = c.in_ok-workflow.field-0 in
     let request = event (plain.cancel w) in
-    (request, workflow_read c.args.name.now c.args.asked (asked.Cancel) w request c.in-Cancel.is c.in_ok-workflow.ensures.value refl, c.command-in-Cancel.ensures.answered)
+    (request, workflow_read c.args.name.now c.args.asked (asked.Cancel) w request c.in-Cancel.is c.in_ok-workflow.ensures.value refl, c.ask-in-Cancel.ensures.answered)
 
 pub returns-in-Complete-clause-named : goal.returns-in-Complete-clause-named
 returns-in-Complete-clause-named g c =
     let w = c.in_ok-workflow.field-0 in
     let request = event (plain.complete w) in
-    (request, workflow_read c.args.name.now c.args.asked (asked.Complete) w request c.in-Complete.is c.in_ok-workflow.ensures.value refl, c.command-in-Complete.ensures.answered)
+    (request, workflow_read c.args.name.now c.args.asked (asked.Complete) w request c.in-Complete.is c.in_ok-workflow.ensures.value refl, c.ask-in-Complete.ensures.answered)
 
 pub returns-in-Show-clause-named : goal.returns-in-Show-clause-named
 returns-in-Show-clause-named g c =
     let w = c.in_ok-workflow.field-0 in
     let request = event (plain.show w) in
-    (request, workflow_read c.args.name.now c.args.asked (asked.Show) w request c.in-Show.is c.in_ok-workflow.ensures.value refl, c.show.ensures (g.A.Asks.scopes c.args.cached.now.site.watchers))
+    (request, workflow_read c.args.name.now c.args.asked (asked.Show) w request c.in-Show.is c.in_ok-workflow.ensures.value refl, c.ask-in-Show.ensures.answered)

@@ -1,5 +1,5 @@
 -- The stream reads a primary of one side and writes one of the other side, which are lent at their places.
-use Rattle.std.proofs.Common.{◌<◌, ◌≤◌, ap, arith, length, length-set, set, subst, sym, ◌∙◌}
+use Rattle.std.proofs.Common.{◌≤◌, ap, arith, length, length-set, set, subst, sym, ◌∙◌}
 use Rattle.mt_names.proofs.EntryLemmas.{some_from}
 use Rattle.mt_moves.proofs.PrimaryLemmas.{sides-written, some-lent, source-lent, targets-lent}
 use Rattle.mt_plain.specs.Slots.{read_side, written_side}

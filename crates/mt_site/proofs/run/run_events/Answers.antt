@@ -17,7 +17,7 @@ loop-event-preserved g c =
     let old = c.args.site.now.core in
     let new = c.apply.new.self.core in
     let step : CoreSteps scopes c.loop-event.site.core (event_of c.event-item.result) (answer_from c.apply.result) new
-    = subst (λ w. CoreSteps (g.W.Asks.scopes w) c.loop-event.site.core (event_of c.event-item.result) (answer_from c.apply.result) new) c.loop-event.invariant.watchers c.apply.ensures.steps in
+    = subst (λ w. CoreSteps (g.W.Asks.scopes w) c.loop-event.site.core (event_of c.event-item.result) (answer_from c.apply.result) new) c.loop-event.invariant.watchers c.apply.ensures.applied.steps in
     record {
       room = subst (λ n. length events ≤ n) (sym c.push_reserved.ensures.capacity) c.loop-event.invariant.room;
       count = search rules;
@@ -25,7 +25,7 @@ loop-event-preserved g c =
       runs = subst (λ n. Runs scopes old (take n events) c.push_reserved.new.self.items new) (sym (add-one i))
           (subst (λ rs. Runs scopes old (take (suc i) events) rs new) (sym c.push_reserved.ensures.items)
           (runs_more scopes old c.loop-event.site.core new events c.loop-event.answers.items i c.event-item.result c.apply.result c.loop-event-test.true c.event-item.is c.loop-event.invariant.runs step));
-      purged = λ was. c.apply.ensures.purged (c.loop-event.invariant.purged was);
+      purged = λ was. c.apply.ensures.applied.purged (c.loop-event.invariant.purged was);
     }
 
 pub returns-clause-headline : goal.returns-clause-headline

@@ -1,60 +1,45 @@
--- An advance leads from each state that the controller stands for to the next one, also with its logs purged, and of a run that goes on
--- with it the headline holds.
-use Rattle.std.proofs.Common.{◌≡◌, Ok, Err, refl, sym, rules, subst, ◌∙◌}
+-- The advance leads from each state that the controller stands for to the next one.
+use Rattle.std.proofs.Common.{◌≡◌, [], refl, subst}
+use Rattle.std.specs.Result.{OnErr}
 use Rattle.mt_plain.specs.Events.{advance}
-use Rattle.mt_stands.specs.Purges.{IsPurged}
-use Rattle.mt_stands.specs.Ways.{CoreSteps}
+use Rattle.mt_stands.specs.Base.{BaseState, workflow_at}
+use Rattle.mt_stands.specs.Ways.{CoreState}
+use Rattle.mt_stands.specs.Workflows.{AdvancesWorkflow}
 use Rattle.mt_workflow.specs.Workflows.{stream_name}
 use Rattle.mt_site.specs.Advance.{advanced_from}
-use Rattle.mt_site.proofs.PurgeLemmas.{site_of}
-use Rattle.mt_site.proofs.RunLemmas.{one_kept}
-use Rattle.mt_site.proofs.StoodLemmas.{stood_next}
+use Rattle.mt_site.proofs.CoreLemmas.{can_advance}
+use Rattle.mt_site.proofs.LeaveLemmas.{advances_leave}
+use Rattle.mt_site.proofs.SiteLemmas.{lifted, site, whole}
 use Rattle.mt_site.proofs.controller.Core.advance.Goals as goal
 
+pub advance-requires : goal.advance-requires
+advance-requires c =
+    let old : CoreState = site c.self.inside.topology c.self.inside.primaries c.self.inside.workflows.entries c.self.inside.opened.entries c.self.inside.journal c.self.inside.begun in
+    let core = c.a_core_stays_one.ensures.base old c.self.invariant in
+    let place = c.workflows_of_a_base_stand_in_place.ensures in
+    let shards = c.workflows_of_a_base_know_their_shards.ensures in
+    let streams = c.streams_of_a_base_lie_in_their_logs.ensures in
+    can_advance old.base c.args.workflow.now (stream_name c.args.asked.slot) c.args.asked.shard (place.named old.base core) (shards.source old.base core) (shards.lanes old.base core) (place.apart old.base core)
+    (place.at_source old.base core) (place.at_target old.base core) (streams.tables old.base core) (streams.position old.base core) (streams.kept old.base core)
+
+pub invariant_of-self : goal.invariant_of-self
+invariant_of-self c =
+    let old : CoreState = site c.self.inside.topology c.self.inside.primaries c.self.inside.workflows.entries c.self.inside.opened.entries c.self.inside.journal c.self.inside.begun in
+    let core : BaseState = record old.base { primaries = c.advance.new.primaries; workflows = c.advance.new.workflows.entries } in
+    c.a_core_stays_one.ensures.stays [] old (record old { base = core }) (advance c.args.workflow.now (stream_name c.args.asked.slot) c.args.asked.shard c.args.asked.at c.args.asked.max) (advanced_from c.advance.result) tt
+    (λ more. c.events_on_workflows_step_and_leave_the_ways.ensures.advance _ old core c.args.workflow.now (stream_name c.args.asked.slot) c.args.asked.shard c.args.asked.at c.args.asked.max (advanced_from c.advance.result) (c.advance.ensures core.topology) c.each_is_a_primary.ensures) c.self.invariant
+
 pub returns-clause-does : goal.returns-clause-does
-returns-clause-does c = (
-  c.do_advance.new.self.base,
-  c.in_ok-counts.ensures.does,
-  c.purge.ensures.base,
-)
+returns-clause-does c =
+    let core : BaseState = record { topology = c.self.inside.topology; primaries = c.advance.new.primaries; workflows = c.advance.new.workflows.entries } in
+    subst (λ s. AdvancesWorkflow s.base c.args.workflow.now (stream_name c.args.asked.slot) c.args.asked.shard c.args.asked.at c.args.asked.max (advanced_from c.advance.result) core) c.self.view_is (c.advance.ensures core.topology)
 
-pub returns-clause-ways : goal.returns-clause-ways
-returns-clause-ways c = c.purge.ensures.ways ∙ c.do_advance.ensures.ways
-
-pub returns-clause-steps : goal.returns-clause-steps
-returns-clause-steps c = λ scopes.
-    let event = advance c.args.workflow.now (stream_name c.args.stream) c.args.shard c.args.at c.args.max in
-    let told = advanced_from (Ok c.in_ok-counts.counts) in
-    let made = c.do_advance.new.self in
-    let new = c.purge.new.self in
-    subst (CoreSteps scopes c.args.self.now event told) (site_of made new c.purge.ensures.ways)
-    (c.a_purged_core_stands.ensures.steps scopes c.args.self.now made event told new.base
-    (c.in_ok-counts.ensures.steps scopes)
-    (c.a_purged_base_stands.ensures.all made.base new.base told c.purge.ensures.base))
-
-pub returns-clause-headline : goal.returns-clause-headline
-returns-clause-headline c = λ scopes. one_kept scopes _ _ _ _ (returns-clause-steps c scopes) c.every_run_keeps_the_headline.ensures.with_earlier_lines
-
-pub returns-clause-stood : goal.returns-clause-stood
-returns-clause-stood c = λ scopes.
-    stood_next scopes _ _ (advance c.args.workflow.now (stream_name c.args.stream) c.args.shard c.args.at c.args.max) (advanced_from (Ok c.in_ok-counts.counts)) (returns-clause-steps c scopes)
-
-pub returns-clause-purged : goal.returns-clause-purged
-returns-clause-purged c = λ was. subst IsPurged (sym c.purge.ensures.base) (c.what_is_purged_stays_purged.ensures.all c.do_advance.new.self.base)
-
-pub returns-in_err-counts-clause-does : goal.returns-in_err-counts-clause-does
-returns-in_err-counts-clause-does c =
-    let answered : c.from_residual.result ≡ Err c.in_err-counts.field-0.0 = search rules in
-    rw answered (c.do_advance.new.self.base, c.in_err-counts.ensures.does, refl)
-
-pub returns-in_err-counts-clause-steps : goal.returns-in_err-counts-clause-steps
-returns-in_err-counts-clause-steps c = λ scopes.
-    let answered : c.from_residual.result ≡ Err c.in_err-counts.field-0.0 = search rules in
-    rw answered (c.in_err-counts.ensures.steps scopes)
-
-pub returns-in_err-counts-clause-headline : goal.returns-in_err-counts-clause-headline
-returns-in_err-counts-clause-headline c = λ scopes. one_kept scopes _ _ _ _ (returns-in_err-counts-clause-steps c scopes) c.every_run_keeps_the_headline.ensures.with_earlier_lines
-
-pub returns-in_err-counts-clause-stood : goal.returns-in_err-counts-clause-stood
-returns-in_err-counts-clause-stood c = λ scopes.
-    stood_next scopes _ _ (advance c.args.workflow.now (stream_name c.args.stream) c.args.shard c.args.at c.args.max) (advanced_from c.from_residual.result) (returns-in_err-counts-clause-steps c scopes)
+pub returns-clause-unchanged : goal.returns-clause-unchanged
+returns-clause-unchanged c =
+    let old : CoreState = site c.self.inside.topology c.self.inside.primaries c.self.inside.workflows.entries c.self.inside.opened.entries c.self.inside.journal c.self.inside.begun in
+    let core : BaseState = record old.base { primaries = c.advance.new.primaries; workflows = c.advance.new.workflows.entries } in
+    let place = c.workflows_of_a_base_stand_in_place.ensures in
+    let is = c.a_core_stays_one.ensures.base old c.self.invariant in
+    subst (λ s. OnErr c.advance.result (whole core old.ways ≡ s)) c.self.view_is (lifted c.advance.result old.ways core old.base
+    (advances_leave old.base core c.args.workflow.now (stream_name c.args.asked.slot) c.args.asked.shard c.args.asked.at c.args.asked.max (place.named old.base is c.args.workflow.now)
+    c.advance.result (workflow_at old.base.workflows c.args.workflow.now) refl (c.advance.ensures core.topology)))
